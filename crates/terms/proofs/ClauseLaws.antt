@@ -1,0 +1,52 @@
+-- Literals and clauses, as the code goes through them.
+use mathlib.Core.Path.{_≡_, refl, sym, ap, ap₂, _∙_}
+use mathlib.Core.Bool.{Bool, true, false, _||_, cond}
+use mathlib.Core.List.{List, [], _∷_}
+use mathlib.Core.Logic.{_⊎_, inl, inr, ⊎-elim}
+use Prim.Native.Nat.{ℕ, zero, suc, _+_, _-_, _<_, _≤_}
+use native.Mathlib.Omega.{arith}
+use lib.Dec.{eqb}
+use lib.IntN.{ℤ, pos, negsuc, natAbs}
+use lib.ListN.{length, getD, drop}
+use lib.Signed.{ltZ}
+use Rattle.std.specs.declared.option.Option.{Option}
+use Rattle.std.specs.declared.option.Option.the-variants.{Some, None}
+use Rattle.std.specs.Options.{mapped}
+use Rattle.std.proofs.shelf.Lists.{getD-default, getD-past, at-drop-more}
+use Rattle.std.proofs.shelf.Tests.{both-ways, ltb-false, cond-true, cond-false}
+use Rattle.terms.specs.Clauses.{true-in, satisfied-by, bad-literal, first-bad, First-bad}
+
+-- ---- one literal, v being its variable
+pub no-variable : (a : List ℕ) (l : ℤ) (v : ℕ) → v ≡ natAbs l → (v ≡ 0) ⊎ (length a < v) → false ≡ true-in a l
+no-variable a (pos zero) v e h = refl
+no-variable a (pos (suc k)) v e h = ap (λ x. eqb x 1) (sym (getD-past a k 0 (⊎-elim (λ (z : v ≡ 0). omega arith) (λ (z : length a < v). omega arith) h)))
+no-variable a (negsuc k) v e h = ap (λ x. eqb x 0) (sym (getD-past a k 1 (⊎-elim (λ (z : v ≡ 0). omega arith) (λ (z : length a < v). omega arith) h)))
+
+pub wants-one : (a : List ℕ) (l : ℤ) (v b : ℕ) → v ≡ natAbs l → ltZ (pos 0) l ≡ true → b ≡ 1 → eqb (getD a (v - 1) 0) b ≡ true-in a l
+wants-one a (pos zero) v b e h i = absurd (both-ways false refl h)
+wants-one a (pos (suc k)) v b e h i = ap₂ (λ x y. eqb (getD a x 0) y) (let j : v - 1 ≡ k = omega arith in j) i
+wants-one a (negsuc k) v b e h i = absurd (both-ways false refl h)
+
+pub wants-zero : (a : List ℕ) (l : ℤ) (v b : ℕ) → v ≡ natAbs l → ltZ (pos 0) l ≡ false → (v ≡ 0 → ⊥) → v ≤ length a → b ≡ 0
+    → eqb (getD a (v - 1) 0) b ≡ true-in a l
+wants-zero a (pos zero) v b e h n m i = absurd (n e)
+wants-zero a (pos (suc k)) v b e h n m i = absurd (omega (arith, ltb-false 0 (suc k) h))
+wants-zero a (negsuc k) v b e h n m i =
+    ap₂ (λ x y. eqb (getD a x 0) y) (let j : v - 1 ≡ k = omega arith in j) i ∙ ap (λ x. eqb x 0) (getD-default a k 0 1 (omega arith))
+
+-- ---- one literal further: what is left of a clause decides, and b says of the literal at i whether it is true
+pub next-literal : (a : List ℕ) (c : List ℤ) (i : ℕ) (b : Bool) → i < length c → b ≡ true-in a (getD c i (pos 0))
+    → satisfied-by a (drop i c) ≡ satisfied-by a c → (b || satisfied-by a (drop (i + 1) c)) ≡ satisfied-by a c
+next-literal a c i b l e inv =
+    ap (λ t. t || satisfied-by a (drop (i + 1) c)) e ∙ sym (at-drop-more (satisfied-by a) c i (pos 0) l) ∙ inv
+
+-- ---- the first bad literal is where its definition finds it
+pub first-bad-is : (n : ℕ) (c : List ℤ) (r : Option ℕ) → First-bad n c r → r ≡ first-bad n c
+first-bad-is n [] None h = refl
+first-bad-is n [] (Some i) h = absurd (omega (arith, h .0))
+first-bad-is n (l ∷ c) None h =
+    ap (mapped suc) (first-bad-is n c None (λ k t. h (suc k) (omega arith))) ∙ sym (cond-false (bad-literal n l) (Some 0) (mapped suc (first-bad n c)) (h 0 (omega arith)))
+first-bad-is n (l ∷ c) (Some zero) h = sym (cond-true (bad-literal n l) (Some 0) (mapped suc (first-bad n c)) (h .1))
+first-bad-is n (l ∷ c) (Some (suc i)) h =
+    ap (mapped suc) (first-bad-is n c (Some i) (omega (arith, h .0), h .1, λ k t. h .2 (suc k) (omega arith)))
+    ∙ sym (cond-false (bad-literal n l) (Some 0) (mapped suc (first-bad n c)) (h .2 0 (omega arith)))

@@ -1,0 +1,4 @@
+pub mod Clauses
+pub mod Masks
+pub mod Refusals
+pub mod Sets

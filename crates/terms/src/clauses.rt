@@ -1,0 +1,48 @@
+//! Literals are `i32`, clauses `&[i32]`, assignments byte slices with variable v at place v - 1.
+ghost use mathlib.Core.Path.{_≡_};
+ghost use Rattle.terms.specs.Clauses.{true-in, satisfied-by, bad-literal, first-bad, First-bad};
+
+/// Whether at least one literal of the clause is true.
+pub fn satisfies(assignment: &[u8], clause: &[i32]) -> bool
+    ensures { λ r. ⌜ r ≡ satisfied-by (now (assignment .entry)) (now (clause .entry)) ⌝ }
+{
+    for literal in clause {
+        if is_true(assignment, *literal) {
+            return true;
+        }
+    }
+    false
+}
+
+/// Whether a literal is true. The literal 0 is not, and neither is one of a variable that the assignment lacks.
+fn is_true(assignment: &[u8], literal: i32) -> bool
+    ensures { λ r. ⌜ r ≡ true-in (now (assignment .entry)) literal ⌝ }
+{
+    let variable = literal.unsigned_abs() as usize;
+    if variable == 0 || variable > assignment.len() {
+        return false;
+    }
+    let wanted = if literal > 0 { 1 } else { 0 };
+    assignment[variable - 1] == wanted
+}
+
+/// The place of the first literal that is 0 or whose variable is above `n`.
+pub fn first_bad_literal(clause: &[i32], n: usize) -> Option<usize>
+    ensures value { λ r. ⌜ r ≡ first-bad n (now (clause .entry)) ⌝ }
+    ensures means { λ r. ⌜ First-bad n (now (clause .entry)) r ⌝ }
+{
+    for (place, literal) in clause.iter().enumerate() {
+        if is_bad(*literal, n) {
+            return Some(place);
+        }
+    }
+    None
+}
+
+/// Whether a literal is 0 or its variable is above `n`.
+fn is_bad(literal: i32, n: usize) -> bool
+    ensures { λ r. ⌜ r ≡ bad-literal n literal ⌝ }
+{
+    let variable = literal.unsigned_abs() as usize;
+    variable == 0 || variable > n
+}
