@@ -1,0 +1,3 @@
+pub mod CostLaws
+pub mod LevelLaws
+pub mod ThreeNumbers

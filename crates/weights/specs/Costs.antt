@@ -1,0 +1,23 @@
+-- The cost of a set of soft numbers, and the cost of an assignment.
+use mathlib.Core.Bool.{Bool, cond}
+use mathlib.Core.List.{List, [], _∷_}
+use Prim.Native.Nat.{ℕ, suc}
+use lib.IntN.{ℤ}
+use Rattle.terms.specs.Clauses.{satisfied-by}
+use Rattle.terms.specs.Masks.{member}
+use Rattle.weights.specs.Kinds.{Kind}
+
+module _ {W : Type 0} (K : Kind W) where
+  -- the sum of the weights at the numbers that p picks, the first weight having the number i
+  abbrev pub cost-from : List W → (ℕ → Bool) → ℕ → K .V
+  cost-from [] p i = K .zero
+  cost-from (w ∷ ws) p i = K .plus (cond (p i) (K .value w) (K .zero)) (cost-from ws p (suc i))
+
+  -- the cost of a set, given by its mask
+  abbrev pub cost : List W → ℕ → K .V
+  cost ws m = cost-from ws (member m) 0
+
+  -- the cost of an assignment: the sum of the weights of the soft clauses that it breaks
+  abbrev pub charge : List (W × List ℤ) → List ℕ → K .V
+  charge [] a = K .zero
+  charge (s ∷ softs) a = K .plus (cond (satisfied-by a (s .1)) (K .zero) (K .value (s .0))) (charge softs a)

@@ -1,0 +1,4 @@
+pub mod Costs
+pub mod Kinds
+pub mod Levelled
+pub mod Plainly
