@@ -1,6 +1,6 @@
 -- Literals, clauses and assignments.
 use mathlib.Core.Path.{_≡_}
-use mathlib.Core.Bool.{Bool, true, false, _||_, cond}
+use mathlib.Core.Bool.{Bool, true, false, not, _&&_, _||_, cond}
 use mathlib.Core.List.{List, [], _∷_}
 use Prim.Native.Nat.{ℕ, zero, suc, _<_}
 use lib.ListN.{length, getD}
@@ -21,6 +21,10 @@ true-in a (negsuc k) = eqb (getD a k 1) 0
 abbrev pub satisfied-by : List ℕ → List ℤ → Bool
 satisfied-by a [] = false
 satisfied-by a (l ∷ c) = true-in a l || satisfied-by a c
+
+-- k is the number of a clause that the assignment breaks
+abbrev pub breaks : List ℕ → List (List ℤ) → ℕ → Bool
+breaks a cs k = ltb k (length cs) && not (satisfied-by a (getD cs k []))
 
 abbrev pub variable : ℤ → ℕ
 variable (pos v) = v

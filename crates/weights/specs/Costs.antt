@@ -7,6 +7,12 @@ use Rattle.terms.specs.Clauses.{satisfied-by}
 use Rattle.terms.specs.Masks.{member}
 use Rattle.weights.specs.Kinds.{Kind}
 
+-- the soft clauses with their weights, in order
+abbrev pub paired : {W : Type 0} → List W → List (List ℤ) → List (W × List ℤ)
+paired [] cs = []
+paired (w ∷ ws) [] = []
+paired (w ∷ ws) (c ∷ cs) = (w, c) ∷ paired ws cs
+
 module _ {W : Type 0} (K : Kind W) where
   -- the sum of the weights at the numbers that p picks, the first weight having the number i
   abbrev pub cost-from : List W → (ℕ → Bool) → ℕ → K .V

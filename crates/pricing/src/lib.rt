@@ -1,0 +1,62 @@
+//! What a plan breaks of a list of soft clauses, and what it pays for that.
+ghost use mathlib.Core.Path.{_≡_};
+ghost use mathlib.Core.Bool.{_&&_};
+ghost use Prim.Native.Nat.{ℕ};
+ghost use Rattle.terms.specs.Clauses.{breaks};
+ghost use Rattle.terms.specs.Masks.{member};
+ghost use Rattle.terms.specs.Sets.{mask, fits};
+ghost use Rattle.pricing.specs.Prices.{clauses-of, Answered};
+use terms::SoftSet;
+use terms::satisfies;
+use weights::WeightKind;
+use weights::cost_of;
+
+/// The soft clauses that a plan breaks, and the exact total of their weights, if it can be held.
+#[derive(Clone, Copy)]
+pub struct Price<W> {
+    pub broken: SoftSet,
+    pub total: Option<W>,
+}
+
+/// Why soft clauses cannot be priced.
+#[derive(Clone, Copy)]
+pub enum Unpriced {
+    /// There are more clauses than the 64 that a set can number.
+    TooMany,
+    /// There is not one weight for each clause.
+    Unmatched,
+}
+
+/// Prices a plan: weight k is that of soft clause k.
+pub fn price_plan<W: WeightKind>(
+    plan: &[u8],
+    clauses: &[&[i32]],
+    weights: &[W],
+) -> Result<Price<W>, Unpriced>
+    ensures { λ r. ⌜ Answered (W·WeightKind .kind) (now (plan .entry)) (clauses-of (now (clauses .entry))) (now (weights .entry)) r ⌝ }
+{
+    if clauses.len() > 64 {
+        return Err(Unpriced::TooMany);
+    }
+    if clauses.len() != weights.len() {
+        return Err(Unpriced::Unmatched);
+    }
+    let broken = broken_by(plan, clauses);
+    Ok(Price {
+        broken,
+        total: cost_of(weights, broken),
+    })
+}
+
+/// Which of the clauses the plan breaks, as far as a set can number them.
+fn broken_by(plan: &[u8], clauses: &[&[i32]]) -> SoftSet
+    ensures { λ r. ⌜ ((k : ℕ) → member (mask r) k ≡ (breaks (now (plan .entry)) (clauses-of (now (clauses .entry))) k && fits k)) ⌝ }
+{
+    let mut broken = SoftSet::empty();
+    for (number, clause) in clauses.iter().enumerate() {
+        if !satisfies(plan, clause) {
+            broken = broken.insert(number);
+        }
+    }
+    broken
+}
