@@ -65,6 +65,6 @@ abbrev pub All-hold : List (Type 0) → Type 0
 All-hold [] = Unit {0}
 All-hold (p ∷ ps) = p × All-hold ps
 
-abbrev pub count : List (Type 0) → ℕ
-count [] = 0
-count (p ∷ ps) = suc (count ps)
+abbrev pub how-many : List (Type 0) → ℕ
+how-many [] = 0
+how-many (p ∷ ps) = suc (how-many ps)

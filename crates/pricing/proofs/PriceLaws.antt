@@ -1,6 +1,6 @@
 -- The broken clauses, clause by clause, and what they come to.
-use mathlib.Core.Path.{_≡_, refl, sym, ap, subst, _∙_}
-use mathlib.Core.Bool.{Bool, true, false, not, _&&_, _||_, cond}
+use mathlib.Core.Path.{_≡_, refl, sym, ap, _∙_}
+use mathlib.Core.Bool.{Bool, true, false, not, _&&_, _||_}
 use mathlib.Core.List.{List, [], _∷_}
 use mathlib.Core.Logic.{⊎-elim}
 use Prim.Native.Nat.{ℕ, zero, suc, _+_, _<_, _≤_}
@@ -9,14 +9,12 @@ use native.Mathlib.Omega.{arith}
 use lib.Dec.{eqb, ltb}
 use lib.IntN.{ℤ}
 use lib.ListN.{length, getD}
-use Rattle.std.specs.declared.option.Option.the-variants.{Some, None}
-use Rattle.std.proofs.shelf.Tests.{cases-lt, lt-ltb, le-ltb, and-left, both-ways, cond-true, cond-false, ne-eqb, eq-eqb, ltb-true}
+use Rattle.std.specs.declared.option.Option.the-variants.{None}
+use Rattle.std.proofs.shelf.Tests.{cases-lt, lt-ltb, le-ltb, and-left, both-ways, ltb-true}
 use Rattle.std.proofs.shelf.Ways.{tells}
 use Rattle.terms.specs.Clauses.{satisfied-by, breaks}
-use Rattle.terms.specs.Sets.{fits, capacity}
+use Rattle.terms.specs.Sets.{fits}
 use Rattle.pricing.specs.Prices.{clauses-of, unpriced}
-use Rattle.pricing.specs.declared.Unpriced.{Unpriced}
-use Rattle.pricing.specs.declared.Unpriced.the-variants.{TooMany, Unmatched}
 
 pub length-clauses : (cs : List (RefT (List ℤ))) → length (clauses-of cs) ≡ length cs
 length-clauses [] = refl
@@ -54,20 +52,6 @@ all-broken a cs i k l =
     ap (λ b. b && (breaks a cs k && fits k)) (le-ltb k i h) ∙ sym (ap (λ b. b && fits k) out))
     (cases-lt k i)
 
--- ---- the answers
-module _ {W : Type 0} (cs : List (List ℤ)) (ws : List W) where
-  pub too-many : 64 < length cs → unpriced cs ws ≡ Some TooMany
-  too-many h = cond-true (ltb capacity (length cs)) (Some TooMany) _ (lt-ltb 64 (length cs) h)
-
-  few : length cs ≤ 64 → unpriced cs ws ≡ cond (eqb (length cs) (length ws)) None (Some Unmatched)
-  few h = cond-false (ltb capacity (length cs)) (Some TooMany) _ (le-ltb 64 (length cs) h)
-
-  pub unmatched : length cs ≤ 64 → (length cs ≡ length ws → ⊥) → unpriced cs ws ≡ Some Unmatched
-  unmatched h n = few h ∙ cond-false (eqb (length cs) (length ws)) None (Some Unmatched) (ne-eqb (length cs) (length ws) n)
-
-  pub matched : length cs ≤ 64 → length cs ≡ length ws → unpriced cs ws ≡ None
-  matched h e = few h ∙ cond-true (eqb (length cs) (length ws)) None (Some Unmatched) (eq-eqb (length cs) (length ws) e)
-
 -- with at most 64 clauses each broken one has a number that fits
 pub all-fit : (a : List ℕ) (cs : List (List ℤ)) (k : ℕ) → length cs ≤ 64 → (breaks a cs k && fits k) ≡ breaks a cs k
 all-fit a cs k h = within (ltb k (length cs)) (fits k) (not (satisfied-by a (getD cs k []))) (λ e. lt-ltb k 64 (omega (arith, ltb-true k (length cs) e)))
@@ -76,3 +60,7 @@ all-fit a cs k h = within (ltb k (length cs)) (fits k) (not (satisfied-by a (get
     within false f b g = refl
     within true f true g = g refl
     within true f false g = refl
+
+-- what was not refused has few clauses, and a weight for each
+pub priced-few : {C W : Type 0} (cs : List C) (ws : List W) → unpriced cs ws ≡ None → (length cs ≤ 64) × (length ws ≡ length cs)
+priced-few cs ws e = (grind (arith, tells), grind (arith, tells))

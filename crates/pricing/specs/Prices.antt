@@ -26,7 +26,7 @@ clauses-of [] = []
 clauses-of (c ∷ cs) = c .now ∷ clauses-of cs
 
 -- too many clauses for a set of soft numbers, or not one weight for each
-abbrev pub unpriced : {W : Type 0} → List (List ℤ) → List W → Option Unpriced
+abbrev pub unpriced : {C W : Type 0} → List C → List W → Option Unpriced
 unpriced cs ws = cond (ltb capacity (length cs)) (Some TooMany) (cond (eqb (length cs) (length ws)) None (Some Unmatched))
 
 -- the broken clauses by their numbers, and the cost of the plan, if it can be held
@@ -34,6 +34,6 @@ pub record Priced {W : Type 0} (K : Kind W) (a : List ℕ) (cs : List (List ℤ)
   pub broken : (k : ℕ) → member (mask (p .broken)) k ≡ breaks a cs k
   pub total : Totals K (charge K (paired ws cs) a) (p .total)
 
-abbrev pub Answered : {W : Type 0} (K : Kind W) → List ℕ → List (List ℤ) → List W → Result (Price W) Unpriced → Type 0
-Answered K a cs ws (Ok p) = (unpriced cs ws ≡ None) × Priced K a cs ws p
+abbrev pub Answered : {W : Type 0} (K : Kind W) → List ℕ → List (RefT (List ℤ)) → List W → Result (Price W) Unpriced → Type 0
+Answered K a cs ws (Ok p) = (unpriced cs ws ≡ None) × Priced K a (clauses-of cs) ws p
 Answered K a cs ws (Err e) = unpriced cs ws ≡ Some e

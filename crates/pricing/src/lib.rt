@@ -5,7 +5,7 @@ ghost use Prim.Native.Nat.{ℕ};
 ghost use Rattle.terms.specs.Clauses.{breaks};
 ghost use Rattle.terms.specs.Masks.{member};
 ghost use Rattle.terms.specs.Sets.{mask, fits};
-ghost use Rattle.pricing.specs.Prices.{clauses-of, Answered};
+ghost use Rattle.pricing.specs.Prices.{clauses-of, unpriced, Answered};
 use terms::SoftSet;
 use terms::satisfies;
 use weights::WeightKind;
@@ -33,19 +33,29 @@ pub fn price_plan<W: WeightKind>(
     clauses: &[&[i32]],
     weights: &[W],
 ) -> Result<Price<W>, Unpriced>
-    ensures { λ r. ⌜ Answered (W·WeightKind .kind) (now (plan .entry)) (clauses-of (now (clauses .entry))) (now (weights .entry)) r ⌝ }
+    ensures { λ r. ⌜ Answered (W·WeightKind .kind) (now (plan .entry)) (now (clauses .entry)) (now (weights .entry)) r ⌝ }
 {
-    if clauses.len() > 64 {
-        return Err(Unpriced::TooMany);
-    }
-    if clauses.len() != weights.len() {
-        return Err(Unpriced::Unmatched);
+    if let Some(refusal) = refuse(clauses, weights) {
+        return Err(refusal);
     }
     let broken = broken_by(plan, clauses);
     Ok(Price {
         broken,
         total: cost_of(weights, broken),
     })
+}
+
+/// Why these clauses with these weights cannot be priced, if they cannot.
+fn refuse<W: WeightKind>(clauses: &[&[i32]], weights: &[W]) -> Option<Unpriced>
+    ensures { λ r. ⌜ r ≡ unpriced (now (clauses .entry)) (now (weights .entry)) ⌝ }
+{
+    if clauses.len() > 64 {
+        Some(Unpriced::TooMany)
+    } else if clauses.len() != weights.len() {
+        Some(Unpriced::Unmatched)
+    } else {
+        None
+    }
 }
 
 /// Which of the clauses the plan breaks, as far as a set can number them.

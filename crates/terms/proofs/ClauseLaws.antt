@@ -1,8 +1,8 @@
 -- Literals and clauses, as the code goes through them.
 use mathlib.Core.Path.{_≡_, refl, sym, ap, ap₂, _∙_}
-use mathlib.Core.Bool.{Bool, true, false, _||_, cond}
+use mathlib.Core.Bool.{Bool, false, _||_, cond}
 use mathlib.Core.List.{List, [], _∷_}
-use mathlib.Core.Logic.{_⊎_, inl, inr, ⊎-elim}
+use mathlib.Core.Logic.{_⊎_, ⊎-elim}
 use Prim.Native.Nat.{ℕ, zero, suc, _+_, _-_, _<_, _≤_}
 use native.Mathlib.Omega.{arith}
 use lib.Dec.{eqb}
@@ -13,7 +13,7 @@ use Rattle.std.specs.declared.option.Option.{Option}
 use Rattle.std.specs.declared.option.Option.the-variants.{Some, None}
 use Rattle.std.specs.Options.{mapped}
 use Rattle.std.proofs.shelf.Lists.{getD-default, getD-past, at-drop-more}
-use Rattle.std.proofs.shelf.Tests.{both-ways, ltb-false, cond-true, cond-false}
+use Rattle.std.proofs.shelf.Tests.{lt-ltb, cond-true, cond-false}
 use Rattle.terms.specs.Clauses.{true-in, satisfied-by, bad-literal, first-bad, First-bad}
 
 -- ---- one literal, v being its variable
@@ -22,17 +22,13 @@ no-variable a (pos zero) v e h = refl
 no-variable a (pos (suc k)) v e h = ap (λ x. eqb x 1) (sym (getD-past a k 0 (⊎-elim (λ (z : v ≡ 0). omega arith) (λ (z : length a < v). omega arith) h)))
 no-variable a (negsuc k) v e h = ap (λ x. eqb x 0) (sym (getD-past a k 1 (⊎-elim (λ (z : v ≡ 0). omega arith) (λ (z : length a < v). omega arith) h)))
 
-pub wants-one : (a : List ℕ) (l : ℤ) (v b : ℕ) → v ≡ natAbs l → ltZ (pos 0) l ≡ true → b ≡ 1 → eqb (getD a (v - 1) 0) b ≡ true-in a l
-wants-one a (pos zero) v b e h i = absurd (both-ways false refl h)
-wants-one a (pos (suc k)) v b e h i = ap₂ (λ x y. eqb (getD a x 0) y) (let j : v - 1 ≡ k = omega arith in j) i
-wants-one a (negsuc k) v b e h i = absurd (both-ways false refl h)
-
-pub wants-zero : (a : List ℕ) (l : ℤ) (v b : ℕ) → v ≡ natAbs l → ltZ (pos 0) l ≡ false → (v ≡ 0 → ⊥) → v ≤ length a → b ≡ 0
+pub has-variable : (a : List ℕ) (l : ℤ) (v b : ℕ) → v ≡ natAbs l → (v ≡ 0 → ⊥) → v ≤ length a → b ≡ cond (ltZ (pos 0) l) 1 0
     → eqb (getD a (v - 1) 0) b ≡ true-in a l
-wants-zero a (pos zero) v b e h n m i = absurd (n e)
-wants-zero a (pos (suc k)) v b e h n m i = absurd (omega (arith, ltb-false 0 (suc k) h))
-wants-zero a (negsuc k) v b e h n m i =
-    ap₂ (λ x y. eqb (getD a x 0) y) (let j : v - 1 ≡ k = omega arith in j) i ∙ ap (λ x. eqb x 0) (getD-default a k 0 1 (omega arith))
+has-variable a (pos zero) v b e n m w = absurd (n e)
+has-variable a (pos (suc k)) v b e n m w =
+    ap₂ (λ x y. eqb (getD a x 0) y) (let j : v - 1 ≡ k = omega arith in j) (w ∙ cond-true (ltZ (pos 0) (pos (suc k))) 1 0 (lt-ltb 0 (suc k) (omega arith)))
+has-variable a (negsuc k) v b e n m w =
+    ap₂ (λ x y. eqb (getD a x 0) y) (let j : v - 1 ≡ k = omega arith in j) w ∙ ap (λ x. eqb x 0) (getD-default a k 0 1 (omega arith))
 
 -- ---- one literal further: what is left of a clause decides, and b says of the literal at i whether it is true
 pub next-literal : (a : List ℕ) (c : List ℤ) (i : ℕ) (b : Bool) → i < length c → b ≡ true-in a (getD c i (pos 0))

@@ -1,5 +1,8 @@
 //! Literals are `i32`, clauses `&[i32]`, assignments byte slices with variable v at place v - 1.
 ghost use mathlib.Core.Path.{_≡_};
+ghost use mathlib.Core.Bool.{cond};
+ghost use lib.IntN.{pos};
+ghost use lib.Signed.{ltZ};
 ghost use Rattle.terms.specs.Clauses.{true-in, satisfied-by, bad-literal, first-bad, First-bad};
 
 /// Whether at least one literal of the clause is true.
@@ -22,8 +25,14 @@ fn is_true(assignment: &[u8], literal: i32) -> bool
     if variable == 0 || variable > assignment.len() {
         return false;
     }
-    let wanted = if literal > 0 { 1 } else { 0 };
-    assignment[variable - 1] == wanted
+    assignment[variable - 1] == wanted(literal)
+}
+
+/// The value of its variable that makes a literal true.
+fn wanted(literal: i32) -> u8
+    ensures { λ r. ⌜ r ≡ cond (ltZ (pos 0) literal) 1 0 ⌝ }
+{
+    if literal > 0 { 1 } else { 0 }
 }
 
 /// The place of the first literal that is 0 or whose variable is above `n`.

@@ -2,6 +2,7 @@
 mod clauses;
 mod refusals;
 mod soft_sets;
+mod words;
 
 pub use clauses::first_bad_literal;
 pub use clauses::satisfies;

@@ -1,11 +1,12 @@
 //! Sets of soft numbers. A set means a mask, and nothing outside this module knows how it is held.
 ghost use mathlib.Core.Path.{_≡_};
-ghost use mathlib.Core.Bool.{true, false, not, _&&_, _||_};
+ghost use mathlib.Core.Bool.{false, not, _&&_, _||_};
 ghost use Prim.Native.Nat.{ℕ, _-_, _^_, min};
 ghost use lib.Dec.{eqb, ltb};
 ghost use Rattle.std.specs.Orderings.{Decides};
 ghost use Rattle.terms.specs.Masks.{member, Subset, Intersect, subset, intersect, size};
 ghost use Rattle.terms.specs.Sets.{mask, capacity, fits};
+use crate::words;
 
 /// A set of soft numbers, each below 64.
 #[derive(Clone, Copy)]
@@ -14,11 +15,23 @@ pub struct SoftSet {
 }
 
 impl SoftSet {
+    fn from_bits(bits: u64) -> SoftSet
+        ensures { λ r. ⌜ mask r ≡ bits ⌝ }
+    {
+        SoftSet { bits }
+    }
+
+    fn bits(self) -> u64
+        ensures { λ r. ⌜ r ≡ mask self ⌝ }
+    {
+        self.bits
+    }
+
     pub fn empty() -> SoftSet
         ensures value { λ r. ⌜ mask r ≡ 0 ⌝ }
         ensures members { λ r. ⌜ ((k : ℕ) → member (mask r) k ≡ false) ⌝ }
     {
-        SoftSet { bits: 0 }
+        SoftSet::full(0)
     }
 
     /// The numbers below `s`, all 64 where `s` is more.
@@ -26,79 +39,66 @@ impl SoftSet {
         ensures value { λ r. ⌜ mask r ≡ 2 ^ min s capacity - 1 ⌝ }
         ensures members { λ r. ⌜ ((k : ℕ) → member (mask r) k ≡ (ltb k s && fits k)) ⌝ }
     {
-        if s < 64 {
-            SoftSet { bits: (1 << s) - 1 }
-        } else {
-            SoftSet { bits: u64::MAX }
-        }
+        SoftSet::from_bits(words::first(s))
     }
 
     pub fn has(self, number: usize) -> bool
         ensures { λ r. ⌜ r ≡ member (mask self) number ⌝ }
     {
-        number < 64 && (self.bits >> number) % 2 == 1
+        words::has(self.bits(), number)
     }
 
     /// The set with `number` in it; a number from 64 on changes nothing.
     pub fn insert(self, number: usize) -> SoftSet
         ensures { λ r. ⌜ ((k : ℕ) → member (mask r) k ≡ (member (mask self) k || (eqb number k && fits k))) ⌝ }
     {
-        if number >= 64 {
-            return self;
-        }
-        SoftSet {
-            bits: self.bits | (1 << number),
-        }
+        SoftSet::from_bits(words::either(self.bits(), words::single(number)))
     }
 
     pub fn remove(self, number: usize) -> SoftSet
         ensures { λ r. ⌜ ((k : ℕ) → member (mask r) k ≡ (member (mask self) k && not (eqb number k))) ⌝ }
     {
-        self.minus(SoftSet::empty().insert(number))
+        SoftSet::from_bits(words::cleared(self.bits(), number))
     }
 
     pub fn union(self, other: SoftSet) -> SoftSet
         ensures { λ r. ⌜ ((k : ℕ) → member (mask r) k ≡ (member (mask self) k || member (mask other) k)) ⌝ }
     {
-        SoftSet {
-            bits: self.bits | other.bits,
-        }
+        SoftSet::from_bits(words::either(self.bits(), other.bits()))
     }
 
     /// The numbers of this set that the other lacks.
     pub fn minus(self, other: SoftSet) -> SoftSet
         ensures { λ r. ⌜ ((k : ℕ) → member (mask r) k ≡ (member (mask self) k && not (member (mask other) k))) ⌝ }
     {
-        SoftSet {
-            bits: self.bits & !other.bits,
-        }
+        SoftSet::from_bits(words::without(self.bits(), other.bits()))
     }
 
     pub fn is_empty(self) -> bool
         ensures value { λ r. ⌜ r ≡ eqb (mask self) 0 ⌝ }
         ensures members { λ r. ⌜ Decides r ((k : ℕ) → member (mask self) k ≡ false) ⌝ }
     {
-        self.bits == 0
+        words::is_zero(self.bits())
     }
 
     pub fn is_subset(self, other: SoftSet) -> bool
         ensures value { λ r. ⌜ r ≡ subset (mask self) (mask other) ⌝ }
         ensures members { λ r. ⌜ Decides r (Subset (mask self) (mask other)) ⌝ }
     {
-        self.bits & other.bits == self.bits
+        words::within(self.bits(), other.bits())
     }
 
     pub fn intersects(self, other: SoftSet) -> bool
         ensures value { λ r. ⌜ r ≡ intersect (mask self) (mask other) ⌝ }
         ensures members { λ r. ⌜ Decides r (Intersect (mask self) (mask other)) ⌝ }
     {
-        self.bits & other.bits != 0
+        words::share(self.bits(), other.bits())
     }
 
     /// How many numbers the set has.
     pub fn len(self) -> usize
         ensures { λ r. ⌜ r ≡ size capacity (mask self) ⌝ }
     {
-        self.bits.count_ones() as usize
+        words::count(self.bits())
     }
 }

@@ -10,7 +10,7 @@ use lib.Dec.{ltb}
 use lib.IntN.{ℤ}
 use native.Mathlib.Numerals.{add-one}
 use lib.ListN.{length, drop, getD}
-use Rattle.std.proofs.shelf.Lists.{at-drop-more, at-drop-all, getD-default}
+use Rattle.std.proofs.shelf.Lists.{at-drop-more, at-drop-all}
 use Rattle.std.proofs.shelf.Tests.{cond-true, cond-false, both-ways, cases-bool, lt-ltb}
 use Rattle.std.proofs.shelf.Ways.{tells}
 use Rattle.terms.specs.Clauses.{satisfied-by, breaks}

@@ -1,3 +1,2 @@
 pub mod CostLaws
 pub mod LevelLaws
-pub mod ThreeNumbers

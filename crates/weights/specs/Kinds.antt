@@ -1,7 +1,6 @@
 -- What a weight kind means: values without limit of size, and which of them a weight can hold.
 use mathlib.Core.Path.{_≡_}
 use mathlib.Core.Bool.{Bool, true, false, cond}
-use mathlib.Core.List.{List}
 use Prim.Native.Nat.{ℕ}
 use Rattle.std.specs.declared.cmp.Ordering.{Ordering}
 use Rattle.std.specs.declared.cmp.Ordering.the-variants.{Less, Equal, Greater}
@@ -17,7 +16,7 @@ pub record Kind (W : Type 0) : Type 1 where
   pub plus : V → V → V
   pub le : V → V → Bool
   pub holds : V → Bool
-  pub numbers : V → List ℕ
+  pub numbers : V → ℕ × ℕ × ℕ
 
 pub record Laws {W : Type 0} (K : Kind W) : Type 0 where
   pub total : (x y : K .V) → K .le x y ≡ false → K .le y x ≡ true
@@ -41,10 +40,10 @@ module _ {W : Type 0} (K : Kind W) where
   ordering x y = cond (K .le x y) (cond (K .le y x) Equal Less) Greater
 
   -- the three numbers of a value that can be held give that value back
-  abbrev pub Comes-back : List ℕ → Option W → Type 0
+  abbrev pub Comes-back : ℕ × ℕ × ℕ → Option W → Type 0
   Comes-back three r = (v : K .V) → K .holds v ≡ true → K .numbers v ≡ three → mapped (K .value) r ≡ Some v
 
   -- and a weight that comes can be held, and its three numbers are those that it came from
-  abbrev pub Stands-for : List ℕ → Option W → Type 0
+  abbrev pub Stands-for : ℕ × ℕ × ℕ → Option W → Type 0
   Stands-for three None = Unit {0}
   Stands-for three (Some w) = (K .holds (K .value w) ≡ true) × (K .numbers (K .value w) ≡ three)

@@ -1,6 +1,6 @@
 -- Level weights: three whole numbers, each held below 2 ^ 32, summed place by place, ordered by the first place in which they differ.
 use mathlib.Core.Bool.{Bool, _&&_, _||_}
-use mathlib.Core.List.{List, [], _∷_, _++_}
+use mathlib.Core.List.{List, _∷_, _++_}
 use Prim.Native.Nat.{ℕ, _+_, _^_}
 use lib.Dec.{eqb, leb, ltb}
 use Rattle.std.specs.Written.{decimal}
@@ -28,7 +28,7 @@ levels-kind = record {
   plus = λ x y. three (x .first + y .first) (x .second + y .second) (x .third + y .third);
   le = at-most;
   holds = λ x. ltb (x .first) (2 ^ 32) && (ltb (x .second) (2 ^ 32) && ltb (x .third) (2 ^ 32));
-  numbers = λ x. x .first ∷ x .second ∷ x .third ∷ [];
+  numbers = λ x. (x .first, x .second, x .third);
 }
 
 -- the three numbers in base ten, parted by commas

@@ -1,5 +1,4 @@
 -- Plain weights: whole numbers, held below 2 ^ 64; the first of the three numbers is the weight, the others are 0.
-use mathlib.Core.List.{[], _∷_}
 use Prim.Native.Nat.{ℕ, _+_, _^_}
 use lib.Dec.{leb, ltb}
 use Rattle.weights.specs.Kinds.{Kind}
@@ -13,5 +12,5 @@ plain-kind = record {
   plus = λ x y. x + y;
   le = leb;
   holds = λ x. ltb x (2 ^ 64);
-  numbers = λ x. x ∷ 0 ∷ 0 ∷ [];
+  numbers = λ x. (x, 0, 0);
 }

@@ -1,4 +1,6 @@
 //! The cost of a set of soft numbers.
+ghost use mathlib.Core.Path.{_≡_};
+ghost use mathlib.Core.Bool.{true};
 ghost use Rattle.terms.specs.Sets.{mask};
 ghost use Rattle.weights.specs.Costs.{cost};
 ghost use Rattle.weights.specs.Kinds.{Totals};
@@ -9,7 +11,14 @@ use terms::SoftSet;
 pub fn cost_of<W: WeightKind>(weights: &[W], set: SoftSet) -> Option<W>
     ensures { λ r. ⌜ Totals (W·WeightKind .kind) (cost (W·WeightKind .kind) (now (weights .entry)) (mask set)) r ⌝ }
 {
-    let mut total = W::zero();
+    add_costs(W::zero(), weights, set)
+}
+
+/// A total that can be held, and the weights at the members of `set` with it.
+fn add_costs<W: WeightKind>(start: W, weights: &[W], set: SoftSet) -> Option<W>
+    ensures { λ r. ⌜ (W·WeightKind .kind .holds (W·WeightKind .kind .value start) ≡ true → Totals (W·WeightKind .kind) (W·WeightKind .kind .plus (W·WeightKind .kind .value start) (cost (W·WeightKind .kind) (now (weights .entry)) (mask set))) r) ⌝ }
+{
+    let mut total = start;
     for (number, weight) in weights.iter().enumerate() {
         if set.has(number) {
             total = total.sum(*weight)?;

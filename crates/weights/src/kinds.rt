@@ -21,12 +21,12 @@ pub trait WeightKind: Copy {
         ensures { λ r. ⌜ r ≡ ordering kind (kind .value self) (kind .value other) ⌝ };
 
     /// The weight as three numbers.
-    fn to_numbers(self) -> [u64; 3]
+    fn to_numbers(self) -> (u64, u64, u64)
         ensures numbers { λ r. ⌜ r ≡ kind .numbers (kind .value self) ⌝ }
         ensures held { λ r. ⌜ kind .holds (kind .value self) ≡ true ⌝ };
 
     /// The weight that three numbers stand for, or none where they stand for none.
-    fn from_numbers(three: [u64; 3]) -> Option<Self>
+    fn from_numbers(three: (u64, u64, u64)) -> Option<Self>
         ensures back { λ r. ⌜ Comes-back kind three r ⌝ }
         ensures only { λ r. ⌜ Stands-for kind three r ⌝ };
 }

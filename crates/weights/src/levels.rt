@@ -1,6 +1,4 @@
 //! Level weights: three whole numbers, of which an earlier one counts more than all later ones.
-ghost use mathlib.Core.List.{List, _∷_, _++_};
-ghost use Prim.Native.Nat.{ℕ};
 ghost use Rattle.std.specs.declared.option.Option.the-variants.{Some};
 ghost use Rattle.weights.specs.Levelled.{levels-kind, with-commas};
 use crate::kinds::WeightKind;
@@ -44,16 +42,16 @@ pub impl WeightKind for Levels as LevelsKind {
             .then(self.third.cmp(&other.third))
     }
 
-    fn to_numbers(self) -> [u64; 3] {
-        [
+    fn to_numbers(self) -> (u64, u64, u64) {
+        (
             u64::from(self.first),
             u64::from(self.second),
             u64::from(self.third),
-        ]
+        )
     }
 
-    fn from_numbers(three: [u64; 3]) -> Option<Levels> {
-        let [first, second, third] = three;
+    fn from_numbers(three: (u64, u64, u64)) -> Option<Levels> {
+        let (first, second, third) = three;
         let first = u32::try_from(first).ok()?;
         let second = u32::try_from(second).ok()?;
         let third = u32::try_from(third).ok()?;

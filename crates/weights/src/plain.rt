@@ -1,6 +1,4 @@
 //! Plain weights: whole numbers.
-ghost use mathlib.Core.List.{List};
-ghost use Prim.Native.Nat.{ℕ};
 ghost use Rattle.std.specs.declared.option.Option.the-variants.{Some};
 ghost use Rattle.std.specs.Written.{decimal};
 ghost use Rattle.weights.specs.Plainly.{plain-kind};
@@ -30,13 +28,13 @@ pub impl WeightKind for Plain as PlainKind {
         self.amount.cmp(&other.amount)
     }
 
-    fn to_numbers(self) -> [u64; 3] {
-        [self.amount, 0, 0]
+    fn to_numbers(self) -> (u64, u64, u64) {
+        (self.amount, 0, 0)
     }
 
-    fn from_numbers(three: [u64; 3]) -> Option<Plain> {
+    fn from_numbers(three: (u64, u64, u64)) -> Option<Plain> {
         match three {
-            [amount, 0, 0] => Some(Plain { amount }),
+            (amount, 0, 0) => Some(Plain { amount }),
             _ => None,
         }
     }

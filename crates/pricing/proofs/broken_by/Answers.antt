@@ -1,4 +1,4 @@
-use mathlib.Core.Path.{_≡_, sym, ap, _∙_}
+use mathlib.Core.Path.{sym, ap, _∙_}
 use mathlib.Core.Bool.{not, _||_, _&&_}
 use lib.Dec.{eqb}
 use native.Mathlib.Omega.{arith}

@@ -1,4 +1,4 @@
-use mathlib.Core.Path.{_≡_, sym, _∙_}
+use mathlib.Core.Path.{sym, _∙_}
 use mathlib.Core.Bool.{true, false}
 use borrow.Author.Needs.{needs}
 use lib.IntN.{pos}
@@ -7,7 +7,7 @@ use mir.Syntax.{w32}
 use mir.Val.{SFits}
 use Rattle.std.proofs.shelf.Lists.{at-drop-all}
 use Rattle.std.proofs.shelf.Signed.{toZ-ofZ}
-use Rattle.terms.specs.Clauses.{true-in, satisfied-by}
+use Rattle.terms.specs.Clauses.{satisfied-by}
 use Rattle.terms.proofs.ClauseLaws.{next-literal}
 use Rattle.terms.proofs.clauses.satisfies.Needs as need
 
