@@ -70,3 +70,34 @@ fn broken_by(plan: &[u8], clauses: &[&[i32]]) -> SoftSet
     }
     broken
 }
+
+#[cfg(test)]
+mod tests {
+    use super::*;
+    use std::test::*;
+    use weights::Plain;
+    use weights::PlainKind;
+
+    const MOST: [&[i32]; 64] = [&[1]; 64];
+
+    const TOO_MANY: [&[i32]; 65] = [&[1]; 65];
+
+    #[test]
+    fn sixty_four_clauses_can_be_priced_and_no_more() -> Result<(), Fail> {
+        let price = price_plan(&[0], &MOST, &[Plain { amount: 2 }; 64])
+            .ok()
+            .ok_or("refused")?;
+        check_eq(price.broken.len(), 64)?;
+        check_eq(price.total.ok_or("not held")?.amount, 128)?;
+        let many = price_plan(&[0], &TOO_MANY, &[Plain { amount: 2 }; 65]);
+        check(matches!(many, Err(Unpriced::TooMany)))
+    }
+
+    #[test]
+    fn every_clause_needs_a_weight() -> Result<(), Fail> {
+        let short = price_plan(&[0], &MOST, &[Plain { amount: 2 }; 63]);
+        check(matches!(short, Err(Unpriced::Unmatched)))?;
+        let long = price_plan(&[0], &MOST, &[Plain { amount: 2 }; 65]);
+        check(matches!(long, Err(Unpriced::Unmatched)))
+    }
+}

@@ -10,3 +10,6 @@ pub use refusals::Layer;
 pub use refusals::Part;
 pub use refusals::Refusal;
 pub use soft_sets::SoftSet;
+
+#[cfg(test)]
+mod tests;

@@ -36,43 +36,43 @@ impl Layer {
 /// a call that meets several is refused for the earliest.
 #[derive(Clone, Copy, PartialEq, Eq, Debug)]
 pub enum Refusal {
-    /// 1, text: the session text is longer than 65,536 bytes.
+    /// 1, text: a session text of more than 65,536 bytes.
     TextTooLong,
-    /// 2, text: the first field is no known letter, or is j on a later line, or is not j on the first line.
+    /// 2, text: a line without a known letter in front, or with j anywhere but on the first line, which needs it.
     WrongLetter,
-    /// 3, text: the number of fields is wrong.
+    /// 3, text: too many fields for the line, or too few.
     WrongFieldCount,
-    /// 4, text: a field is not written as asked.
+    /// 4, text: a field in the wrong form.
     MalformedField,
-    /// 5, finder: the check for a finder is given more variables than it takes.
+    /// 5, finder: more variables than the finder takes.
     TooManyVariables,
-    /// 6, job: the job was opened on parts that are not fresh.
+    /// 6, job: opened on a finder or a cover maker that was in use already.
     NotFresh,
-    /// 7, job: a round is called at best or void.
+    /// 7, job: a round after the job has ended, at best or void.
     Finished,
-    /// 8, finder: a clause has more than 64 literals.
+    /// 8, finder: more than 64 literals in a clause.
     ClauseTooLong,
-    /// 9, finder: a literal is 0 or its variable is above n.
+    /// 9, finder: the literal 0, or one of a variable above n.
     BadLiteral,
-    /// 10, cover maker: the weight is zero.
+    /// 10, cover maker: a weight of zero.
     ZeroWeight,
-    /// 11, finder or cover maker: that part has no free soft place.
+    /// 11, of the part that it names: no soft place is free there.
     NoSoftPlace(Part),
-    /// 12, cover maker: the total of all weights with the new one cannot be held.
+    /// 12, cover maker: the weights with the new one come to more than can be held.
     TotalNotHeld,
     /// 13, finder: no clause place is free, or too few literal places are.
     NoClausePlace,
-    /// 14: a buffer or an assignment is shorter than n.
+    /// 14: fewer than n bytes in a buffer or an assignment.
     TooShort,
-    /// 15: one of the first n bytes of an assignment is neither 0 nor 1.
+    /// 15: a byte other than 0 and 1 among the n of an assignment.
     BadByte,
-    /// 16: a set names a soft number not yet given.
+    /// 16: a soft number that was not given yet, in a set.
     UnknownSoft,
-    /// 17: the core to be added is empty.
+    /// 17: a core without members.
     EmptyCore,
-    /// 18, cover maker: a core needs a new place, and 512 cores remain kept after the drops.
+    /// 18, cover maker: no place for a core, as 512 others have to stay.
     NoCorePlace,
-    /// 19: no assignment is kept.
+    /// 19: no assignment in hand.
     NothingKept,
 }
 

@@ -12,3 +12,6 @@ pub use levels::LevelsKind;
 pub use plain::Plain;
 pub use plain::PlainDisplay;
 pub use plain::PlainKind;
+
+#[cfg(test)]
+mod tests;
