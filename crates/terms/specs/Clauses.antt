@@ -10,8 +10,8 @@ use Rattle.std.specs.declared.option.Option.{Option}
 use Rattle.std.specs.declared.option.Option.the-variants.{Some, None}
 use Rattle.std.specs.Options.{mapped}
 
--- Literal v is true where variable v is 1, literal -v where it is 0. Variable v stands at place v - 1 of an assignment.
--- The literal 0 is true in no assignment, and neither is one of a variable past the assignment's end.
+-- Literal v is true where variable v is 1, literal -v where it is 0; the value of variable v stands at place v - 1.
+-- No assignment makes the literal 0 true, or one of a variable that it has no value for.
 abbrev pub true-in : List ℕ → ℤ → Bool
 true-in a (pos zero) = false
 true-in a (pos (suc k)) = eqb (getD a k 0) 1

@@ -35,7 +35,7 @@ fn wanted(literal: i32) -> u8
     if literal > 0 { 1 } else { 0 }
 }
 
-/// The place of the first literal that is 0 or whose variable is above `n`.
+/// The place of the first literal that is 0 or belongs to a variable above `n`.
 pub fn first_bad_literal(clause: &[i32], n: usize) -> Option<usize>
     ensures value { λ r. ⌜ r ≡ first-bad n (now (clause .entry)) ⌝ }
     ensures means { λ r. ⌜ First-bad n (now (clause .entry)) r ⌝ }
@@ -48,7 +48,7 @@ pub fn first_bad_literal(clause: &[i32], n: usize) -> Option<usize>
     None
 }
 
-/// Whether a literal is 0 or its variable is above `n`.
+/// Whether a literal is 0 or belongs to a variable above `n`.
 fn is_bad(literal: i32, n: usize) -> bool
     ensures { λ r. ⌜ r ≡ bad-literal n literal ⌝ }
 {

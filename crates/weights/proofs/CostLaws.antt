@@ -36,22 +36,22 @@ module _ {W : Type 0} (K : Kind W) (laws : Laws K) where
         at-drop-more (λ xs. cost-from K xs p i) ws i w l
         ∙ ap₂ (λ x j. K .plus (cond (p i) (K .value x) (K .zero)) (cost-from K (drop (i + 1) ws) p j)) (sym e) (sym (add-one i))
 
-    pub takes : (i : ℕ) (w : W) (a b t : K .V) → i < length ws → w ≡ getD ws i w → p i ≡ true → b ≡ K .plus a (K .value w)
+    pub takes : (i : ℕ) (w : W) (a b t : K .V) → i < length ws → w ≡ getD ws i w → true ≡ p i → b ≡ K .plus a (K .value w)
         → K .plus a (rest i) ≡ t → K .plus b (rest (i + 1)) ≡ t
     takes i w a b t l e h s inv =
         ap (λ x. K .plus x (rest (i + 1))) s ∙ laws .assoc a (K .value w) (rest (i + 1))
-        ∙ ap (λ x. K .plus a (K .plus x (rest (i + 1)))) (sym (cond-true (p i) (K .value w) (K .zero) h))
+        ∙ ap (λ x. K .plus a (K .plus x (rest (i + 1)))) (sym (cond-true (p i) (K .value w) (K .zero) (sym h)))
         ∙ ap (K .plus a) (sym (rest-more i w l e)) ∙ inv
 
-    pub passes : (i : ℕ) (w : W) (a t : K .V) → i < length ws → w ≡ getD ws i w → p i ≡ false
+    pub passes : (i : ℕ) (w : W) (a t : K .V) → i < length ws → w ≡ getD ws i w → false ≡ p i
         → K .plus a (rest i) ≡ t → K .plus a (rest (i + 1)) ≡ t
     passes i w a t l e h inv =
         ap (K .plus a) (sym (laws .unit (rest (i + 1))))
-        ∙ ap (λ x. K .plus a (K .plus x (rest (i + 1)))) (sym (cond-false (p i) (K .value w) (K .zero) h))
+        ∙ ap (λ x. K .plus a (K .plus x (rest (i + 1)))) (sym (cond-false (p i) (K .value w) (K .zero) (sym h)))
         ∙ ap (K .plus a) (sym (rest-more i w l e)) ∙ inv
 
     -- one weight too many
-    pub too-much : (i : ℕ) (w : W) (a t : K .V) → i < length ws → w ≡ getD ws i w → p i ≡ true → K .holds (K .plus a (K .value w)) ≡ false
+    pub too-much : (i : ℕ) (w : W) (a t : K .V) → i < length ws → w ≡ getD ws i w → true ≡ p i → K .holds (K .plus a (K .value w)) ≡ false
         → K .plus a (rest i) ≡ t → K .holds t ≡ false
     too-much i w a t l e h nh inv =
         ap (K .holds) (sym (takes i w a (K .plus a (K .value w)) t l e h refl inv)) ∙ part-too-much (K .plus a (K .value w)) (rest (i + 1)) nh

@@ -1,4 +1,4 @@
--- Level weights: three whole numbers, each held below 2 ^ 32, summed place by place, ordered by the first place in which they differ.
+-- Level weights: three whole numbers, each held below 2 ^ 32 and summed by itself. The first counts before the second, and the second before the third.
 use mathlib.Core.Bool.{Bool, _&&_, _||_}
 use mathlib.Core.List.{List, _∷_, _++_}
 use Prim.Native.Nat.{ℕ, _+_, _^_}

@@ -1,8 +1,6 @@
 //! The cost of a set of soft numbers.
-ghost use mathlib.Core.Path.{_≡_};
-ghost use mathlib.Core.Bool.{true};
 ghost use Rattle.terms.specs.Sets.{mask};
-ghost use Rattle.weights.specs.Costs.{cost};
+ghost use Rattle.weights.specs.Costs.{Adds, cost};
 ghost use Rattle.weights.specs.Kinds.{Totals};
 use crate::kinds::WeightKind;
 use terms::SoftSet;
@@ -14,9 +12,9 @@ pub fn cost_of<W: WeightKind>(weights: &[W], set: SoftSet) -> Option<W>
     add_costs(W::zero(), weights, set)
 }
 
-/// A total that can be held, and the weights at the members of `set` with it.
+/// The total of `start` and the weights at the members of `set`.
 fn add_costs<W: WeightKind>(start: W, weights: &[W], set: SoftSet) -> Option<W>
-    ensures { λ r. ⌜ (W·WeightKind .kind .holds (W·WeightKind .kind .value start) ≡ true → Totals (W·WeightKind .kind) (W·WeightKind .kind .plus (W·WeightKind .kind .value start) (cost (W·WeightKind .kind) (now (weights .entry)) (mask set))) r) ⌝ }
+    ensures { λ r. ⌜ Adds (W·WeightKind .kind) start (now (weights .entry)) (mask set) r ⌝ }
 {
     let mut total = start;
     for (number, weight) in weights.iter().enumerate() {

@@ -1,4 +1,4 @@
-//! Level weights: three whole numbers, of which an earlier one counts more than all later ones.
+//! Level weights: three whole numbers, of which each counts more than all after it.
 ghost use Rattle.std.specs.declared.option.Option.the-variants.{Some};
 ghost use Rattle.weights.specs.Levelled.{levels-kind, with-commas};
 use crate::kinds::WeightKind;

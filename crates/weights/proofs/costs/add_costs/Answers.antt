@@ -10,7 +10,7 @@ returns-in-Break-total g c h =
     let K = g .W·WeightKind .kind in
     rw (c .from-residual .ensures)
     (too-much K (g .W·WeightKind·met .laws) (c .args .weights .now) (member (mask (c .args .set))) (c .loop-number .number) (c .index-weights-number .result)
-    (K .value (c .loop-number .total)) _ (c .loop-number-test .taken) (c .index-weights-number .is) (sym (c .has .ensures) ∙ c .if-has .taken)
+    (K .value (c .loop-number .total)) _ (c .loop-number-test .taken) (c .index-weights-number .is) (c .if-has .ensures tt)
     (c .in-Break-total .ensures tt) (c .loop-number .inv h .1))
 
 pub loop-number-again : need.loop-number-again
@@ -25,13 +25,13 @@ loop-number-again g c h =
           rw (w .total-is) (
             ap (K .holds) (w .in-Continue-total .ensures tt .1) ∙ w .in-Continue-total .ensures tt .0,
             takes K laws ws p (c .loop-number .number) (c .index-weights-number .result) a _ _ (c .loop-number-test .taken) (c .index-weights-number .is)
-                (sym (c .has .ensures) ∙ w .if-has .taken) (w .in-Continue-total .ensures tt .1) (c .loop-number .inv h .1),
+                (w .if-has .ensures tt) (w .in-Continue-total .ensures tt .1) (c .loop-number .inv h .1),
           )
       | else-has w ↦
           rw (w .total-is) (
             c .loop-number .inv h .0,
             passes K laws ws p (c .loop-number .number) (c .index-weights-number .result) a _ (c .loop-number-test .taken) (c .index-weights-number .is)
-                (sym (c .has .ensures) ∙ w .if-has .left) (c .loop-number .inv h .1),
+                (w .if-has .ensures tt) (c .loop-number .inv h .1),
           )
     ]
 
