@@ -2,10 +2,11 @@
 ghost use mathlib.Core.Path.{_≡_};
 ghost use mathlib.Core.Bool.{_&&_};
 ghost use Prim.Native.Nat.{ℕ};
+ghost use Rattle.std.specs.declared.option.Option.the-variants.{None};
 ghost use Rattle.terms.specs.Clauses.{breaks};
 ghost use Rattle.terms.specs.Masks.{member};
 ghost use Rattle.terms.specs.Sets.{mask, fits};
-ghost use Rattle.pricing.specs.Prices.{clauses-of, unpriced, Answered};
+ghost use Rattle.pricing.specs.Prices.{clauses-of, unpriced, Priced, Answered};
 use terms::SoftSet;
 use terms::satisfies;
 use weights::WeightKind;
@@ -35,14 +36,21 @@ pub fn price_plan<W: WeightKind>(
 ) -> Result<Price<W>, Unpriced>
     ensures { λ r. ⌜ Answered (W·WeightKind .kind) (now (plan .entry)) (now (clauses .entry)) (now (weights .entry)) r ⌝ }
 {
-    if let Some(refusal) = refuse(clauses, weights) {
-        return Err(refusal);
+    match refuse(clauses, weights) {
+        Some(refusal) => Err(refusal),
+        None => Ok(price_matched(plan, clauses, weights)),
     }
+}
+
+/// The price of a plan, for clauses and weights that are not refused.
+fn price_matched<W: WeightKind>(plan: &[u8], clauses: &[&[i32]], weights: &[W]) -> Price<W>
+    ensures { λ r. ⌜ (unpriced (now (clauses .entry)) (now (weights .entry)) ≡ None → Priced (W·WeightKind .kind) (now (plan .entry)) (clauses-of (now (clauses .entry))) (now (weights .entry)) r) ⌝ }
+{
     let broken = broken_by(plan, clauses);
-    Ok(Price {
+    Price {
         broken,
         total: cost_of(weights, broken),
-    })
+    }
 }
 
 /// Why these clauses with these weights cannot be priced, if they cannot.
