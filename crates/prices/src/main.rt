@@ -1,6 +1,7 @@
 //! Prices plans against soft clauses of both weight kinds, and says of each plan what it breaks and what that costs.
 ghost use mathlib.Core.Path.{_≡_};
 use pricing::Price;
+use pricing::Unpriced;
 use pricing::price_plan;
 use std::fmt;
 use std::io;
@@ -89,9 +90,13 @@ fn price_all<W: WeightKind + fmt::Display>(
     for plan in plans {
         match price_plan(plan, clauses, weights) {
             Ok(price) => show_price(rt, plan, clauses.len(), price)?,
-            Err(_) => println!(
+            Err(Unpriced::TooMany) => println!(
                 rt,
-                "  These clauses and weights do not match, so no plan was priced."
+                "  There are more than 64 soft clauses, so no plan was priced."
+            )?,
+            Err(Unpriced::Unmatched) => println!(
+                rt,
+                "  Not each soft clause has its weight, so no plan was priced."
             )?,
         }
     }
