@@ -1,6 +1,6 @@
 -- Literals and clauses, as the code goes through them.
 use mathlib.Core.Path.{_≡_, refl, sym, ap, ap₂, _∙_}
-use mathlib.Core.Bool.{Bool, false, _||_, cond}
+use mathlib.Core.Bool.{Bool, true, false, _||_, cond}
 use mathlib.Core.List.{List, [], _∷_}
 use mathlib.Core.Logic.{_⊎_, ⊎-elim}
 use Prim.Native.Nat.{ℕ, zero, suc, _+_, _-_, _<_, _≤_}
@@ -12,9 +12,10 @@ use lib.Signed.{ltZ}
 use Rattle.std.specs.declared.option.Option.{Option}
 use Rattle.std.specs.declared.option.Option.the-variants.{Some, None}
 use Rattle.std.specs.Options.{mapped}
+use Rattle.std.specs.Orderings.{Decides}
 use Rattle.std.proofs.shelf.Lists.{getD-default, getD-past, at-drop-more}
-use Rattle.std.proofs.shelf.Tests.{lt-ltb, cond-true, cond-false}
-use Rattle.terms.specs.Clauses.{true-in, satisfied-by, bad-literal, first-bad, First-bad}
+use Rattle.std.proofs.shelf.Tests.{lt-ltb, cond-true, cond-false, both-ways, or-cases, or-left, or-right}
+use Rattle.terms.specs.Clauses.{true-in, satisfied-by, Satisfied, bad-literal, first-bad, First-bad}
 
 -- ---- one literal, v being its variable
 pub no-variable : (a : List ℕ) (l : ℤ) (v : ℕ) → v ≡ natAbs l → (v ≡ 0) ⊎ (length a < v) → false ≡ true-in a l
@@ -35,6 +36,20 @@ pub next-literal : (a : List ℕ) (c : List ℤ) (i : ℕ) (b : Bool) → i < le
     → satisfied-by a (drop i c) ≡ satisfied-by a c → (b || satisfied-by a (drop (i + 1) c)) ≡ satisfied-by a c
 next-literal a c i b l e inv =
     ap (λ t. t || satisfied-by a (drop (i + 1) c)) e ∙ sym (at-drop-more (satisfied-by a) c i (pos 0) l) ∙ inv
+
+-- ---- a clause is satisfied where a literal is true
+true-at : (a : List ℕ) (c : List ℤ) (k : ℕ) → k < length c → true-in a (getD c k (pos 0)) ≡ true → satisfied-by a c ≡ true
+true-at a [] k h t = absurd (omega arith)
+true-at a (l ∷ c) zero h t = or-left (true-in a l) (satisfied-by a c) t
+true-at a (l ∷ c) (suc k) h t = or-right (true-in a l) (satisfied-by a c) (true-at a c k (omega arith) t)
+
+some-true : (a : List ℕ) (c : List ℤ) → satisfied-by a c ≡ true → Satisfied a c
+some-true a [] e = absurd (both-ways false refl e)
+some-true a (l ∷ c) e =
+    ⊎-elim (λ h. (0, omega arith, h)) (λ t. let w = some-true a c t in (suc (w .0), omega (arith, w .1), w .2)) (or-cases (true-in a l) (satisfied-by a c) e)
+
+pub satisfied-means : (a : List ℕ) (c : List ℤ) → Decides (satisfied-by a c) (Satisfied a c)
+satisfied-means a c = (some-true a c, λ w. true-at a c (w .0) (w .1) (w .2))
 
 -- ---- the first bad literal is where its definition finds it
 pub first-bad-is : (n : ℕ) (c : List ℤ) (r : Option ℕ) → First-bad n c r → r ≡ first-bad n c

@@ -22,6 +22,10 @@ abbrev pub satisfied-by : List ℕ → List ℤ → Bool
 satisfied-by a [] = false
 satisfied-by a (l ∷ c) = true-in a l || satisfied-by a c
 
+-- the same told by places: the literal at some place is true
+abbrev pub Satisfied : List ℕ → List ℤ → Type 0
+Satisfied a c = (k : ℕ) × (k < length c) × (true-in a (getD c k (pos 0)) ≡ true)
+
 -- k is the number of a clause that the assignment breaks
 abbrev pub breaks : List ℕ → List (List ℤ) → ℕ → Bool
 breaks a cs k = ltb k (length cs) && not (satisfied-by a (getD cs k []))

@@ -3,11 +3,13 @@ ghost use mathlib.Core.Path.{_≡_};
 ghost use mathlib.Core.Bool.{cond};
 ghost use lib.IntN.{pos};
 ghost use lib.Signed.{ltZ};
-ghost use Rattle.terms.specs.Clauses.{true-in, satisfied-by, bad-literal, first-bad, First-bad};
+ghost use Rattle.std.specs.Orderings.{Decides};
+ghost use Rattle.terms.specs.Clauses.{true-in, satisfied-by, Satisfied, bad-literal, first-bad, First-bad};
 
 /// Whether at least one literal of the clause is true.
 pub fn satisfies(assignment: &[u8], clause: &[i32]) -> bool
-    ensures { λ r. ⌜ r ≡ satisfied-by (now (assignment .entry)) (now (clause .entry)) ⌝ }
+    ensures value { λ r. ⌜ r ≡ satisfied-by (now (assignment .entry)) (now (clause .entry)) ⌝ }
+    ensures means { λ r. ⌜ Decides r (Satisfied (now (assignment .entry)) (now (clause .entry))) ⌝ }
 {
     for literal in clause {
         if is_true(assignment, *literal) {

@@ -25,18 +25,21 @@ pub(crate) fn single(number: usize) -> u64
     if number < 64 { 1 << number } else { 0 }
 }
 
+/// Whether the number is a member.
 pub(crate) fn has(word: u64, number: usize) -> bool
     ensures { λ r. ⌜ r ≡ member word number ⌝ }
 {
     number < 64 && (word >> number) % 2 == 1
 }
 
+/// The members of either word.
 pub(crate) fn either(a: u64, b: u64) -> u64
     ensures { λ r. ⌜ ((k : ℕ) → member r k ≡ (member a k || member b k)) ⌝ }
 {
     a | b
 }
 
+/// The members of `a` that `b` lacks.
 pub(crate) fn without(a: u64, b: u64) -> u64
     ensures { λ r. ⌜ ((k : ℕ) → member r k ≡ (member a k && not (member b k))) ⌝ }
 {
@@ -50,6 +53,7 @@ pub(crate) fn cleared(word: u64, number: usize) -> u64
     without(word, single(number))
 }
 
+/// Whether there is no member.
 pub(crate) fn is_zero(word: u64) -> bool
     ensures value { λ r. ⌜ r ≡ eqb word 0 ⌝ }
     ensures members { λ r. ⌜ Decides r ((k : ℕ) → member word k ≡ false) ⌝ }
@@ -57,6 +61,7 @@ pub(crate) fn is_zero(word: u64) -> bool
     word == 0
 }
 
+/// Whether each member of `a` is one of `b`.
 pub(crate) fn within(a: u64, b: u64) -> bool
     ensures value { λ r. ⌜ r ≡ subset a b ⌝ }
     ensures members { λ r. ⌜ Decides r (Subset a b) ⌝ }
@@ -64,6 +69,7 @@ pub(crate) fn within(a: u64, b: u64) -> bool
     a & b == a
 }
 
+/// Whether `a` and `b` have a member in common.
 pub(crate) fn share(a: u64, b: u64) -> bool
     ensures value { λ r. ⌜ r ≡ intersect a b ⌝ }
     ensures members { λ r. ⌜ Decides r (Intersect a b) ⌝ }

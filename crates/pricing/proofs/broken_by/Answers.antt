@@ -15,7 +15,7 @@ loop-number-again c k =
     let i = c .loop-number .number in
     let a = c .args .plan .now in
     let cs = clauses-of (c .args .clauses .now) in
-    let here = breaks-at a (c .args .clauses .now) i _ (c .satisfies .result) (c .loop-number-test .taken) (c .satisfies .ensures) in
+    let here = breaks-at a (c .args .clauses .now) i _ (c .satisfies .result) (c .loop-number-test .taken) (c .satisfies .ensures .value) in
     elim (c .if-not-satisfies .came) [
       | then-not-satisfies w ↦
           ap (λ s. member (mask s) k) (w .broken-is) ∙ w .insert-broken .ensures k ∙ ap (λ b. b || (eqb i k && fits k)) (c .loop-number .inv k)
