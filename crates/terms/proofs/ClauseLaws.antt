@@ -5,7 +5,7 @@ use mathlib.Core.List.{List, [], _∷_}
 use mathlib.Core.Logic.{_⊎_, ⊎-elim}
 use Prim.Native.Nat.{ℕ, zero, suc, _+_, _-_, _<_, _≤_}
 use native.Mathlib.Omega.{arith}
-use lib.Dec.{eqb}
+use lib.Dec.{eqb, ltb}
 use lib.IntN.{ℤ, pos, negsuc, natAbs}
 use lib.ListN.{length, getD, drop}
 use lib.Signed.{ltZ}
@@ -14,8 +14,20 @@ use Rattle.std.specs.declared.option.Option.the-variants.{Some, None}
 use Rattle.std.specs.Options.{mapped}
 use Rattle.std.specs.Orderings.{Decides}
 use Rattle.std.proofs.shelf.Lists.{getD-default, getD-past, at-drop-more}
-use Rattle.std.proofs.shelf.Tests.{lt-ltb, cond-true, cond-false, both-ways, or-cases, or-left, or-right}
-use Rattle.terms.specs.Clauses.{true-in, satisfied-by, Satisfied, bad-literal, first-bad, First-bad}
+use Rattle.std.proofs.shelf.Tests.{lt-ltb, ltb-true, and-parts, and-from, cond-true, cond-false, both-ways, or-cases, or-left, or-right}
+use Rattle.terms.specs.Clauses.{binary, Binary, true-in, satisfied-by, Satisfied, bad-literal, first-bad, First-bad}
+
+-- ---- an assignment's bytes
+pub binary-means : (a : List ℕ) → Decides (binary a) (Binary a)
+binary-means [] = (λ e k l. absurd (omega arith), λ h. refl)
+binary-means (b ∷ a) = (
+  (λ e k l. let p = and-parts (ltb b 2) (binary a) e in at b a k (ltb-true b 2 (p .0)) (binary-means a .0 (p .1)) l),
+  (λ h. and-from (ltb b 2) (binary a) (lt-ltb b 2 (h 0 (omega arith))) (binary-means a .1 (λ k l. h (suc k) (omega arith)))),
+)
+  where
+    at : (b : ℕ) (a : List ℕ) (k : ℕ) → b < 2 → Binary a → k < length (b ∷ a) → getD (b ∷ a) k 0 < 2
+    at b a zero f r l = f
+    at b a (suc k) f r l = r k (omega arith)
 
 -- ---- one literal, v being its variable
 pub no-variable : (a : List ℕ) (l : ℤ) (v : ℕ) → v ≡ natAbs l → (v ≡ 0) ⊎ (length a < v) → false ≡ true-in a l

@@ -11,9 +11,9 @@ use lib.Bits.{bitAnd, bitOr, and-shr, or-shr, and-mod, or-mod}
 use lib.Count.{ones, ones-step, ones-ones}
 use lib.Pow.{shr-shr, pow-pos, pow-mono}
 use Rattle.std.specs.Orderings.{Decides}
-use Rattle.std.proofs.shelf.Tests.{eqb-true, eqb-false, eq-eqb, ne-eqb, cases-bool, cases-lt, both-ways, and-parts, and-from, and-left, lt-ltb, le-ltb, not-true, not-from-false}
+use Rattle.std.proofs.shelf.Tests.{eqb-true, eqb-false, eq-eqb, ne-eqb, cases-bool, cases-lt, both-ways, and-parts, and-from, and-left, lt-ltb, le-ltb, ltb-true, not-true, not-from-false}
 use Rattle.std.proofs.shelf.Ways.{tells}
-use Rattle.terms.specs.Masks.{member, subset, intersect, Subset, Intersect, size}
+use Rattle.terms.specs.Masks.{member, subset, intersect, below, Subset, Intersect, Below, size}
 
 two-pos : 0 < 2
 two-pos = zero-lt-suc 1
@@ -163,6 +163,25 @@ unfolding subset
 subset-members x y = (
   (λ e k h. and-parts (member x k) (member y k) (sym (member-and x y k) ∙ ap (λ z. member z k) (eqb-true (bitAnd x y) x e) ∙ h) .1),
   (λ f. eq-eqb (bitAnd x y) x (same-mask (bitAnd x y) x (λ k. member-and x y k ∙ and-absorbs (member x k) (member y k) (f k)))),
+)
+
+all-below : (n m : ℕ) → Below n m → m < 2 ^ n
+all-below zero m h =
+    let z : m ≡ 0 = same-mask m 0 (λ k. not-true-false (member m k) (λ e. omega (arith, h k e)) ∙ sym (member-none k)) in
+    omega arith
+  where
+    not-true-false : (b : Bool) → (b ≡ true → ⊥) → b ≡ false
+    not-true-false true n = absurd (n refl)
+    not-true-false false n = refl
+all-below (suc n) m h =
+    let p : 2 ^ suc n ≡ 2 ^ n * 2 = pow-suc 2 n in
+    omega (arith, all-below n (m / 2) (λ k e. omega (arith, h (suc k) (sym (member-half m k) ∙ e))))
+
+pub below-members : (n m : ℕ) → Decides (below n m) (Below n m)
+unfolding below
+below-members n m = (
+  (λ e k h. ⊎-elim (λ (l : k < n). l) (λ (l : n ≤ k). absurd (both-ways (member m k) (member-past n m k (ltb-true m (2 ^ n) e) l) h)) (cases-lt k n)),
+  (λ f. lt-ltb m (2 ^ n) (all-below n m f)),
 )
 
 -- a mask below 2 ^ n that is not zero has a member

@@ -10,6 +10,19 @@ use Rattle.std.specs.declared.option.Option.{Option}
 use Rattle.std.specs.declared.option.Option.the-variants.{Some, None}
 use Rattle.std.specs.Options.{mapped}
 
+-- each byte is 0 or 1
+abbrev pub binary : List ℕ → Bool
+binary [] = true
+binary (b ∷ a) = ltb b 2 && binary a
+
+-- the same told by places
+abbrev pub Binary : List ℕ → Type 0
+Binary a = (k : ℕ) → k < length a → getD a k 0 < 2
+
+-- an assignment gives each of n variables 0 or 1
+abbrev pub Assignment : ℕ → List ℕ → Type 0
+Assignment n a = (length a ≡ n) × (binary a ≡ true)
+
 -- Literal v is true where variable v is 1, literal -v where it is 0; the value of variable v stands at place v - 1.
 -- No assignment makes the literal 0 true, or one of a variable that it has no value for.
 abbrev pub true-in : List ℕ → ℤ → Bool

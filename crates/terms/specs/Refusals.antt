@@ -1,7 +1,11 @@
--- The number of each refusal, its layer, and the layers' letters.
+-- The number of each refusal, its layer, and the layers' letters; which refusal a call gets, and what it leaves.
+use mathlib.Core.Bool.{Bool, cond}
+use mathlib.Core.List.{List, [], _∷_}
 use Prim.Native.Nat.{ℕ}
 use Rattle.std.specs.declared.option.Option.{Option}
 use Rattle.std.specs.declared.option.Option.the-variants.{Some, None}
+use Rattle.std.specs.declared.result.Result.{Result}
+use Rattle.std.specs.declared.result.Result.the-variants.{Ok, Err}
 use Rattle.terms.specs.declared.refusals.Layer.{Layer}
 use Rattle.terms.specs.declared.refusals.Layer.the-variants.{Text, Job, Finder, CoverMaker}
 use Rattle.terms.specs.declared.refusals.Part.{Part}
@@ -63,3 +67,19 @@ letter-of Text = 116
 letter-of Job = 106
 letter-of Finder = 102
 letter-of CoverMaker = 99
+
+-- ---- which refusal a call gets
+-- the refusal of the earliest test that is met, with the tests in the order in which they count
+abbrev pub earliest : List (Bool × Refusal) → Option Refusal
+earliest [] = None
+earliest (t ∷ ts) = cond (t .0) (Some (t .1)) (earliest ts)
+
+-- the refusal that a result tells, if it is one
+abbrev pub told : {A : Type 0} → Result A Refusal → Option Refusal
+told (Ok x) = None
+told (Err r) = Some r
+
+-- what a call leaves: what it should change where it is accepted, all as it was where it is refused
+abbrev pub unless-refused : {A : Type 0} → Option Refusal → A → A → A
+unless-refused None changed same = changed
+unless-refused (Some r) changed same = same

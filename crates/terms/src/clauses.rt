@@ -1,10 +1,31 @@
 //! Literals are `i32`, clauses `&[i32]`, assignments byte slices with variable v at place v - 1.
 ghost use mathlib.Core.Path.{_≡_};
 ghost use mathlib.Core.Bool.{cond};
+ghost use lib.Dec.{leb};
 ghost use lib.IntN.{pos};
 ghost use lib.Signed.{ltZ};
 ghost use Rattle.std.specs.Orderings.{Decides};
-ghost use Rattle.terms.specs.Clauses.{true-in, satisfied-by, Satisfied, bad-literal, first-bad, First-bad};
+ghost use Rattle.terms.specs.Clauses.{binary, Binary, true-in, satisfied-by, Satisfied, bad-literal, first-bad, First-bad};
+
+/// Whether each byte is 0 or 1, as in an assignment.
+pub fn is_binary(bytes: &[u8]) -> bool
+    ensures value { λ r. ⌜ r ≡ binary (now (bytes .entry)) ⌝ }
+    ensures means { λ r. ⌜ Decides r (Binary (now (bytes .entry))) ⌝ }
+{
+    for byte in bytes {
+        if is_neither(*byte) {
+            return false;
+        }
+    }
+    true
+}
+
+/// Whether a byte is neither 0 nor 1.
+fn is_neither(byte: u8) -> bool
+    ensures { λ r. ⌜ r ≡ leb 2 byte ⌝ }
+{
+    byte > 1
+}
 
 /// Whether at least one literal of the clause is true.
 pub fn satisfies(assignment: &[u8], clause: &[i32]) -> bool

@@ -5,6 +5,7 @@ mod soft_sets;
 mod words;
 
 pub use clauses::first_bad_literal;
+pub use clauses::is_binary;
 pub use clauses::satisfies;
 pub use refusals::Layer;
 pub use refusals::Part;
@@ -25,6 +26,14 @@ mod tests {
         check(!satisfies(&[0, 0], &[1, 2]))?;
         check(!satisfies(&[0, 0], &[])).note("no literal is true in the empty clause")?;
         check(satisfies(&[1], &[-1, 1])).note("opposites are satisfied by everything")
+    }
+
+    #[test]
+    fn an_assignment_is_zeros_and_ones() -> Result<(), Fail> {
+        check(is_binary(&[]))?;
+        check(is_binary(&[0, 1, 1]))?;
+        check(!is_binary(&[0, 1, 2]))?;
+        check(!is_binary(&[255, 1]))
     }
 
     #[test]
@@ -51,6 +60,8 @@ mod tests {
         check(set.has(63) && !set.has(64))?;
         check_eq(SoftSet::full(64).len(), 64)?;
         check_eq(SoftSet::full(65).len(), 64)?;
+        check(set.all_below(64) && !set.all_below(63))?;
+        check(SoftSet::empty().all_below(0))?;
         check_eq(set.remove(64).remove(0).len(), 1)
     }
 

@@ -4,7 +4,7 @@ ghost use mathlib.Core.Bool.{false, not, _&&_, _||_};
 ghost use Prim.Native.Nat.{ℕ, _-_, _^_, min};
 ghost use lib.Dec.{eqb, ltb};
 ghost use Rattle.std.specs.Orderings.{Decides};
-ghost use Rattle.terms.specs.Masks.{member, Subset, Intersect, subset, intersect, size};
+ghost use Rattle.terms.specs.Masks.{member, Subset, Intersect, Below, subset, intersect, below, size};
 ghost use Rattle.terms.specs.Sets.{mask, capacity, fits};
 use crate::words;
 
@@ -86,6 +86,14 @@ impl SoftSet {
         ensures members { λ r. ⌜ Decides r (Subset (mask self) (mask other)) ⌝ }
     {
         words::within(self.bits(), other.bits())
+    }
+
+    /// Whether each number of the set is below `s`.
+    pub fn all_below(self, s: usize) -> bool
+        ensures value { λ r. ⌜ r ≡ below s (mask self) ⌝ }
+        ensures members { λ r. ⌜ Decides r (Below s (mask self)) ⌝ }
+    {
+        words::all_below(self.bits(), s)
     }
 
     pub fn intersects(self, other: SoftSet) -> bool

@@ -4,7 +4,7 @@ ghost use mathlib.Core.Bool.{false, not, _&&_, _||_};
 ghost use Prim.Native.Nat.{ℕ, _-_, _^_, min};
 ghost use lib.Dec.{eqb, ltb};
 ghost use Rattle.std.specs.Orderings.{Decides};
-ghost use Rattle.terms.specs.Masks.{member, Subset, Intersect, subset, intersect, size};
+ghost use Rattle.terms.specs.Masks.{member, Subset, Intersect, Below, subset, intersect, below, size};
 
 /// The numbers below `count`, all 64 where `count` is more.
 pub(crate) fn first(count: usize) -> u64
@@ -67,6 +67,14 @@ pub(crate) fn within(a: u64, b: u64) -> bool
     ensures members { λ r. ⌜ Decides r (Subset a b) ⌝ }
 {
     a & b == a
+}
+
+/// Whether each member is below `count`.
+pub(crate) fn all_below(word: u64, count: usize) -> bool
+    ensures value { λ r. ⌜ r ≡ below count word ⌝ }
+    ensures members { λ r. ⌜ Decides r (Below count word) ⌝ }
+{
+    count >= 64 || word >> count == 0
 }
 
 /// Whether `a` and `b` have a member in common.
