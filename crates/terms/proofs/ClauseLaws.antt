@@ -11,7 +11,7 @@ use lib.ListN.{length, getD, drop}
 use lib.Signed.{ltZ}
 use Rattle.std.specs.declared.option.Option.{Option}
 use Rattle.std.specs.declared.option.Option.the-variants.{Some, None}
-use Rattle.std.specs.Options.{mapped}
+use Rattle.std.specs.Options.{isSome, mapped}
 use Rattle.std.specs.Orderings.{Decides}
 use Rattle.std.proofs.shelf.Lists.{getD-default, getD-past, at-drop-more}
 use Rattle.std.proofs.shelf.Tests.{lt-ltb, ltb-true, and-parts, and-from, cond-true, cond-false, both-ways, or-cases, or-left, or-right}
@@ -73,3 +73,14 @@ first-bad-is n (l ∷ c) (Some zero) h = sym (cond-true (bad-literal n l) (Some 
 first-bad-is n (l ∷ c) (Some (suc i)) h =
     ap (mapped suc) (first-bad-is n c (Some i) (omega (arith, h .0), h .1, λ k t. h .2 (suc k) (omega arith)))
     ∙ sym (cond-false (bad-literal n l) (Some 0) (mapped suc (first-bad n c)) (h .2 0 (omega arith)))
+
+-- where it finds none, no literal is bad
+none-there : (b : Bool) (o : Option ℕ) → isSome (cond b (Some 0) (mapped suc o)) ≡ false → (b ≡ false) × (isSome o ≡ false)
+none-there true o e = absurd (both-ways true e refl)
+none-there false None e = (refl, refl)
+none-there false (Some i) e = absurd (both-ways true e refl)
+
+pub all-good : (n : ℕ) (c : List ℤ) → isSome (first-bad n c) ≡ false → First-bad n c None
+all-good n [] e k l = absurd (omega arith)
+all-good n (x ∷ c) e zero l = none-there (bad-literal n x) (first-bad n c) e .0
+all-good n (x ∷ c) e (suc k) l = all-good n c (none-there (bad-literal n x) (first-bad n c) e .1) k (omega arith)

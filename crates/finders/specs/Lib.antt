@@ -1,0 +1,3 @@
+pub mod Meanings
+pub mod Refused
+pub mod Questions

@@ -1,0 +1,2 @@
+pub mod Entries
+pub mod Tabled

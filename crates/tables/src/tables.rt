@@ -1,0 +1,118 @@
+//! The two lent tables and how far they are filled. `ClauseTables` keeps what holds of them.
+ghost use mathlib.Core.Path.{_≡_};
+ghost use mathlib.Core.Bool.{true};
+ghost use mathlib.Core.List.{_++_};
+ghost use Prim.Native.Nat.{ℕ, _+_, _≤_, min};
+ghost use lib.ListN.{length, take, drop};
+ghost use Rattle.std.specs.declared.option.Option.the-variants.{None};
+ghost use Rattle.finders.specs.Meanings.{fresh, with-soft, with-hard};
+ghost use Rattle.finders.specs.Refused.{soft-refused, hard-refused};
+ghost use Rattle.tables.specs.Entries.{softs-after, well-numbered};
+ghost use Rattle.tables.specs.Tabled.{Valid, meaning-of, refused-as, with-clause};
+use crate::records::ClauseKind;
+use crate::records::ClauseRecord;
+
+#[derive(Drop)]
+pub struct Tables<'a> {
+    pub(crate) records: &'a mut [ClauseRecord],
+    pub(crate) literals: &'a mut [i32],
+    /// How many records are in use, and how many literals.
+    pub(crate) used: usize,
+    pub(crate) filled: usize,
+    /// How many clauses are soft, and how many can be.
+    pub(crate) softs: usize,
+    pub(crate) limit: usize,
+    /// The number of variables.
+    pub(crate) n: usize,
+}
+
+impl<'a> Tables<'a> {
+    /// Tables without a clause. No more than `most` places of either table are used.
+    pub(crate) fn new(
+        records: &'a mut [ClauseRecord],
+        literals: &'a mut [i32],
+        n: usize,
+        limit: usize,
+        most: usize,
+    ) -> Self
+        requires few { ⌜ (n ≤ 256) × (limit ≤ 64) × (most ≤ 32768) ⌝ }
+        ensures valid { λ r. ⌜ Valid r ⌝ }
+        ensures means { λ r. ⌜ meaning-of r ≡ fresh n limit (min (length (now (records .entry))) most) (min (length (now (literals .entry))) most) ⌝ }
+    {
+        let clause_places = smaller(records.len(), most);
+        let literal_places = smaller(literals.len(), most);
+        Tables {
+            records: &mut records[..clause_places],
+            literals: &mut literals[..literal_places],
+            used: 0,
+            filled: 0,
+            softs: 0,
+            limit,
+            n,
+        }
+    }
+
+    pub(crate) fn push_soft(&mut self, clause: &[i32])
+        requires valid { ⌜ Valid (now self) ⌝ }
+        requires fine { ⌜ soft-refused (meaning-of (now self)) (now clause) ≡ None ⌝ }
+        ensures valid { λ _. ⌜ Valid (now (self .exit)) ⌝ }
+        ensures means { λ _. ⌜ meaning-of (now (self .exit)) ≡ with-soft (meaning-of (now (self .entry))) (now (clause .entry)) ⌝ }
+    {
+        let number = self.softs as u8;
+        self.push(ClauseKind::Soft(number), clause);
+    }
+
+    pub(crate) fn push_hard(&mut self, clause: &[i32])
+        requires valid { ⌜ Valid (now self) ⌝ }
+        requires fine { ⌜ hard-refused (meaning-of (now self)) (now clause) ≡ None ⌝ }
+        ensures valid { λ _. ⌜ Valid (now (self .exit)) ⌝ }
+        ensures means { λ _. ⌜ meaning-of (now (self .exit)) ≡ with-hard (meaning-of (now (self .entry))) (now (clause .entry)) ⌝ }
+    {
+        self.push(ClauseKind::Hard, clause);
+    }
+
+    /// Writes the clause behind the others.
+    fn push(&mut self, kind: ClauseKind, clause: &[i32])
+        requires valid { ⌜ Valid (now self) ⌝ }
+        requires fine { ⌜ refused-as kind (meaning-of (now self)) (now clause) ≡ None ⌝ }
+        requires number { ⌜ well-numbered (now self .softs) kind ≡ true ⌝ }
+        ensures valid { λ _. ⌜ Valid (now (self .exit)) ⌝ }
+        ensures means { λ _. ⌜ meaning-of (now (self .exit)) ≡ with-clause kind (meaning-of (now (self .entry))) (now (clause .entry)) ⌝ }
+    {
+        let place = self.filled;
+        copy_at(self.literals, place, clause);
+        self.records[self.used] = ClauseRecord {
+            place: place as u16,
+            size: clause.len() as u8,
+            kind,
+        };
+        self.used += 1;
+        self.filled += clause.len();
+        self.softs = softs_with(self.softs, kind);
+    }
+}
+
+fn smaller(a: usize, b: usize) -> usize
+    ensures { λ r. ⌜ r ≡ min a b ⌝ }
+{
+    if a < b { a } else { b }
+}
+
+/// How many soft clauses there are with one more clause.
+fn softs_with(softs: usize, kind: ClauseKind) -> usize
+    requires { ⌜ softs ≤ 64 ⌝ }
+    ensures { λ r. ⌜ r ≡ softs-after softs kind ⌝ }
+{
+    match kind {
+        ClauseKind::Hard => softs,
+        ClauseKind::Soft(_) => softs + 1,
+    }
+}
+
+fn copy_at(whole: &mut [i32], at: usize, part: &[i32])
+    requires { ⌜ at + length (now part) ≤ length (now whole) ⌝ }
+    ensures { λ _. ⌜ now (whole .exit) ≡ take at (now (whole .entry)) ++ (now (part .entry) ++ drop (at + length (now (part .entry))) (now (whole .entry))) ⌝ }
+{
+    let end = at + part.len();
+    whole[at..end].copy_from_slice(part);
+}
