@@ -52,15 +52,6 @@ all-broken a cs i k l =
     ap (λ b. b && (breaks a cs k && fits k)) (le-ltb k i h) ∙ sym (ap (λ b. b && fits k) out))
     (cases-lt k i)
 
--- with at most 64 clauses each broken one has a number that fits
-pub all-fit : (a : List ℕ) (cs : List (List ℤ)) (k : ℕ) → length cs ≤ 64 → (breaks a cs k && fits k) ≡ breaks a cs k
-all-fit a cs k h = within (ltb k (length cs)) (fits k) (not (satisfied-by a (getD cs k []))) (λ e. lt-ltb k 64 (omega (arith, ltb-true k (length cs) e)))
-  where
-    within : (x f b : Bool) → (x ≡ true → f ≡ true) → ((x && b) && f) ≡ (x && b)
-    within false f b g = refl
-    within true f true g = g refl
-    within true f false g = refl
-
 -- what was not refused has few clauses, and a weight for each
 pub priced-few : {C W : Type 0} (cs : List C) (ws : List W) → unpriced cs ws ≡ None → (length cs ≤ 64) × (length ws ≡ length cs)
 priced-few cs ws e = (grind (arith, tells), grind (arith, tells))

@@ -1,2 +1,4 @@
+pub mod Held
 pub mod Pasted
 pub mod Pushed
+pub mod Breaking

@@ -64,6 +64,13 @@ numbered before [] = true
 numbered before (e ∷ es) = well-numbered before (e .kind) && numbered (softs-after before (e .kind)) es
 
 -- ---- a clause as it is shown
+abbrev pub as-entry : Clause → Entry
+as-entry c = record { kind = c .kind; clause = now (c .literals) }
+
+abbrev pub no-entry : Entry
+no-entry = record { kind = Hard; clause = [] }
+
+-- the clause at place k, none past the last
 abbrev pub Shown : List Entry → ℕ → Option Clause → Type 0
 Shown es k None = length es ≤ k
-Shown es k (Some c) = (k < length es) × (record { kind = c .kind; clause = now (c .literals) } ≡ getD es k (record { kind = Hard; clause = [] }))
+Shown es k (Some c) = (k < length es) × (as-entry c ≡ getD es k no-entry)

@@ -1,16 +1,16 @@
 -- What the tables hold, what holds of them, and what they mean.
 use mathlib.Core.Path.{_≡_}
-use mathlib.Core.Bool.{true, false}
+use mathlib.Core.Bool.{true, false, cond}
 use mathlib.Core.List.{List, map}
-use Prim.Native.Nat.{ℕ, _+_, _-_, _≤_, _<_}
+use Prim.Native.Nat.{ℕ, _+_, _-_, _≤_, _<_, min}
 use denote.Ref.{now}
 use lib.IntN.{ℤ, pos}
 use lib.ListN.{length, getD, take}
 use Rattle.std.specs.declared.option.Option.{Option}
 use Rattle.terms.specs.Clauses.{bad-literal}
 use Rattle.terms.specs.declared.refusals.Refusal.{Refusal}
-use Rattle.finders.specs.Meanings.{FinderMeaning, with-hard, with-soft}
-use Rattle.finders.specs.Refused.{hard-refused, soft-refused}
+use Rattle.finders.specs.Meanings.{FinderMeaning, fresh, with-hard, with-soft}
+use Rattle.finders.specs.Refused.{too-many, hard-refused, soft-refused}
 use Rattle.tables.specs.Entries.{Entry, entry, hards, softs, satisfied-all, numbered, blank}
 use Rattle.tables.specs.declared.records.ClauseKind.{ClauseKind}
 use Rattle.tables.specs.declared.records.ClauseKind.the-variants.{Hard, Soft}
@@ -54,6 +54,10 @@ pub record Valid (t : Tables) : Type 0 where
   pub inside : Inside t
   pub proper : Proper t
   pub numbered : Numbered t
+
+-- ---- what is made on tables of so many records and literals, for a finder that takes so many variables
+abbrev pub made-for : ℕ → ℕ → ℕ → ℕ → FinderMeaning
+made-for most n records literals = cond (too-many most n) (fresh 0 0 0 0) (fresh n 64 (min records 32768) (min literals 32768))
 
 -- ---- adding a clause of either kind
 abbrev pub refused-as : ClauseKind → FinderMeaning → List ℤ → Option Refusal

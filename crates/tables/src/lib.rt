@@ -1,11 +1,13 @@
 //! The clause tables: every clause a finder keeps, in memory that the caller lends.
-mod check;
+mod adding;
 mod clause_tables;
+mod making;
+mod reading;
 mod records;
 mod tables;
 
-pub use check::check_variables;
 pub use clause_tables::ClauseTables;
+pub use making::check_variables;
 pub use records::Clause;
 pub use records::ClauseKind;
 pub use records::ClauseRecord;

@@ -2,13 +2,14 @@
 ghost use mathlib.Core.Path.{_≡_};
 ghost use mathlib.Core.Bool.{true};
 ghost use mathlib.Core.List.{_++_};
-ghost use Prim.Native.Nat.{ℕ, _+_, _≤_, min};
-ghost use lib.ListN.{length, take, drop};
+ghost use Prim.Native.Nat.{ℕ, _+_, _<_, _≤_, min};
+ghost use lib.ListN.{length, getD, take, drop};
 ghost use Rattle.std.specs.declared.option.Option.the-variants.{None};
 ghost use Rattle.finders.specs.Meanings.{fresh, with-soft, with-hard};
 ghost use Rattle.finders.specs.Refused.{soft-refused, hard-refused};
-ghost use Rattle.tables.specs.Entries.{softs-after, well-numbered};
-ghost use Rattle.tables.specs.Tabled.{Valid, meaning-of, refused-as, with-clause};
+ghost use Rattle.tables.specs.Entries.{as-entry, no-entry, softs-after, well-numbered};
+ghost use Rattle.tables.specs.Tabled.{Valid, held, meaning-of, refused-as, with-clause};
+use crate::records::Clause;
 use crate::records::ClauseKind;
 use crate::records::ClauseRecord;
 
@@ -49,6 +50,29 @@ impl<'a> Tables<'a> {
             softs: 0,
             limit,
             n,
+        }
+    }
+
+    /// How many clauses there are.
+    pub(crate) fn count(&self) -> usize
+        requires { ⌜ Valid (now self) ⌝ }
+        ensures { λ r. ⌜ r ≡ length (held (now (self .entry))) ⌝ }
+    {
+        self.used
+    }
+
+    /// The clause of record `k`.
+    pub(crate) fn at(&self, k: usize) -> Clause<'_>
+        requires valid { ⌜ Valid (now self) ⌝ }
+        requires within { ⌜ k < length (held (now self)) ⌝ }
+        ensures { λ r. ⌜ as-entry r ≡ getD (held (now (self .entry))) k no-entry ⌝ }
+    {
+        let record = self.records[k];
+        let start = record.place as usize;
+        let end = start + record.size as usize;
+        Clause {
+            kind: record.kind,
+            literals: &self.literals[start..end],
         }
     }
 

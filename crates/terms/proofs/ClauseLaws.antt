@@ -1,6 +1,6 @@
 -- Literals and clauses, as the code goes through them.
 use mathlib.Core.Path.{_≡_, refl, sym, ap, ap₂, _∙_}
-use mathlib.Core.Bool.{Bool, true, false, _||_, cond}
+use mathlib.Core.Bool.{Bool, true, false, not, _&&_, _||_, cond}
 use mathlib.Core.List.{List, [], _∷_}
 use mathlib.Core.Logic.{_⊎_, ⊎-elim}
 use Prim.Native.Nat.{ℕ, zero, suc, _+_, _-_, _<_, _≤_}
@@ -15,7 +15,8 @@ use Rattle.std.specs.Options.{isSome, mapped}
 use Rattle.std.specs.Orderings.{Decides}
 use Rattle.std.proofs.shelf.Lists.{getD-default, getD-past, at-drop-more}
 use Rattle.std.proofs.shelf.Tests.{lt-ltb, ltb-true, and-parts, and-from, cond-true, cond-false, both-ways, or-cases, or-left, or-right}
-use Rattle.terms.specs.Clauses.{binary, Binary, true-in, satisfied-by, Satisfied, bad-literal, first-bad, First-bad}
+use Rattle.terms.specs.Sets.{fits}
+use Rattle.terms.specs.Clauses.{binary, Binary, true-in, satisfied-by, Satisfied, bad-literal, first-bad, First-bad, breaks}
 
 -- ---- an assignment's bytes
 pub binary-means : (a : List ℕ) → Decides (binary a) (Binary a)
@@ -84,3 +85,13 @@ pub all-good : (n : ℕ) (c : List ℤ) → isSome (first-bad n c) ≡ false →
 all-good n [] e k l = absurd (omega arith)
 all-good n (x ∷ c) e zero l = none-there (bad-literal n x) (first-bad n c) e .0
 all-good n (x ∷ c) e (suc k) l = all-good n c (none-there (bad-literal n x) (first-bad n c) e .1) k (omega arith)
+
+-- ---- broken clauses
+-- with at most 64 clauses each broken one has a number that fits
+pub all-fit : (a : List ℕ) (cs : List (List ℤ)) (k : ℕ) → length cs ≤ 64 → (breaks a cs k && fits k) ≡ breaks a cs k
+all-fit a cs k h = within (ltb k (length cs)) (fits k) (not (satisfied-by a (getD cs k []))) (λ e. lt-ltb k 64 (omega (arith, ltb-true k (length cs) e)))
+  where
+    within : (x f b : Bool) → (x ≡ true → f ≡ true) → ((x && b) && f) ≡ (x && b)
+    within false f b g = refl
+    within true f true g = g refl
+    within true f false g = refl

@@ -2,10 +2,11 @@ use mathlib.Core.Path.{subst, _∙_}
 use Prim.Native.Nat.{ℕ}
 use native.Mathlib.Omega.{arith}
 use Rattle.terms.specs.Sets.{mask}
+use Rattle.terms.proofs.ClauseLaws.{all-fit}
 use Rattle.weights.specs.Kinds.{Totals}
 use Rattle.weights.proofs.CostLaws.{broken-charge}
 use Rattle.pricing.specs.Prices.{clauses-of}
-use Rattle.pricing.proofs.PriceLaws.{length-clauses, all-fit, priced-few}
+use Rattle.pricing.proofs.PriceLaws.{length-clauses, priced-few}
 use Rattle.pricing.proofs.price_matched.Needs as need
 
 pub returns : need.returns
