@@ -17,10 +17,9 @@ pub record FinderMeaning : Type 0 where
   pub free-clauses : ℕ
   pub free-literals : ℕ
 
--- what holds of every finder
-pub record Limited (m : FinderMeaning) : Type 0 where
-  pub variables : m .n ≤ 256
-  pub soft-places : length (m .softs) + m .free-softs ≤ 64
+-- what holds of every finder: at most 256 variables, and at most 64 soft places, taken and free
+abbrev pub Limited : FinderMeaning → Type 0
+Limited m = (m .n ≤ 256) × (length (m .softs) + m .free-softs ≤ 64)
 
 -- no clause yet, so that every assignment is admitted
 abbrev pub fresh : ℕ → ℕ → ℕ → ℕ → FinderMeaning

@@ -23,7 +23,7 @@ pub enum Answer {
 pub trait Finder {
     ghost meaning: { Self → FinderMeaning };
 
-    law limited: { (x : Self) → Limited (meaning x) };
+    ghost limited: { (x : Self) → Limited (meaning x) };
 
     /// The number of variables.
     fn variables(&self) -> usize

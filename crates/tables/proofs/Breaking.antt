@@ -55,7 +55,7 @@ first-broken a c cs s j b e =
     or-false true = refl
     or-false false = refl
 
-pub broken-numbered : (s : ℕ) (es : List Entry) (a : List ℕ) (j : ℕ) → numbered s es ≡ true → broken-in es a j ≡ (leb s j && breaks a (softs es) (j - s))
+broken-numbered : (s : ℕ) (es : List Entry) (a : List ℕ) (j : ℕ) → numbered s es ≡ true → broken-in es a j ≡ (leb s j && breaks a (softs es) (j - s))
 broken-numbered s [] a j h = sym (and-right (leb s j) (breaks a [] (j - s)) (and-left (ltb (j - s) 0) _ (le-ltb (j - s) 0 (omega arith))))
 broken-numbered s (e ∷ es) a j h = by-kind (e .kind) (and-parts (well-numbered s (e .kind)) (numbered (softs-after s (e .kind)) es) h) (λ t n. broken-numbered t es a j n)
   where
@@ -66,6 +66,10 @@ broken-numbered s (e ∷ es) a j h = by-kind (e .kind) (and-parts (well-numbered
     by-kind (Soft i) w ih =
         ap (λ n. (eqb n j && not (satisfied-by a (e .clause))) || broken-in es a j) (eqb-true i s (w .0))
         ∙ first-broken a (e .clause) (softs es) s j (broken-in es a j) (ih (suc s) (w .1))
+
+pub broken-is : (es : List Entry) (a : List ℕ) (j : ℕ) → numbered 0 es ≡ true → broken-in es a j ≡ breaks a (softs es) j
+broken-is es a j h =
+    broken-numbered 0 es a j h ∙ ap₂ (λ b i. b && breaks a (softs es) i) (le-leb 0 j (omega arith)) (let z : j - 0 ≡ j = omega arith in z)
 
 -- ---- one clause further: q says whether number j is broken there, r whether it is among the clauses that follow, f whether it fits a set
 pub next-broken : (m m′ q r f all : Bool) → m′ ≡ (m || (q && f)) → (m || ((q || r) && f)) ≡ all → (m′ || (r && f)) ≡ all

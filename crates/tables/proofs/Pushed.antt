@@ -61,17 +61,17 @@ parts-push f [] e = append-nil _
 parts-push f (x ∷ es) e =
     ap (λ t. f (x .kind) (x .clause) ++ t) (parts-push f es e) ∙ sym (append-assoc (f (x .kind) (x .clause)) (parts f es) (f (e .kind) (e .clause)))
 
-satisfied-push : (cs : List (List ℤ)) (c : List ℤ) (a : List ℕ) → satisfied-all (cs ++ c ∷ []) a ≡ (satisfied-all cs a && satisfied-by a c)
-satisfied-push [] c a = and-true (satisfied-by a c)
-  where
-    and-true : (b : Bool) → (b && true) ≡ b
-    and-true true = refl
-    and-true false = refl
-satisfied-push (x ∷ cs) c a = ap (λ t. satisfied-by a x && t) (satisfied-push cs c a) ∙ and-assoc (satisfied-by a x) (satisfied-all cs a) (satisfied-by a c)
+pub satisfied-append : (cs ds : List (List ℤ)) (a : List ℕ) → satisfied-all (cs ++ ds) a ≡ (satisfied-all cs a && satisfied-all ds a)
+satisfied-append [] ds a = refl
+satisfied-append (x ∷ cs) ds a = ap (λ t. satisfied-by a x && t) (satisfied-append cs ds a) ∙ and-assoc (satisfied-by a x) (satisfied-all cs a) (satisfied-all ds a)
   where
     and-assoc : (p q r : Bool) → (p && (q && r)) ≡ ((p && q) && r)
     and-assoc true q r = refl
     and-assoc false q r = refl
+
+pub and-true : (b : Bool) → (b && true) ≡ b
+and-true true = refl
+and-true false = refl
 
 pub softs-push : (es : List Entry) (e : Entry) → length (softs (es ++ e ∷ [])) ≡ softs-after (length (softs es)) (e .kind)
 softs-push es e = ap length (parts-push soft-part es e) ∙ length-append (softs es) (soft-part (e .kind) (e .clause)) ∙ one (e .kind)
@@ -122,7 +122,7 @@ means-push n es fs Hard xs s s′ c c′ l l′ e se ce le =
     let ss = ap softs e ∙ parts-push soft-part es (record { kind = Hard; clause = xs }) ∙ append-nil _ in
     λ j. record {
       n = n;
-      admits = fun-ext (λ a. ap (λ cs. satisfied-all cs a) hs ∙ satisfied-push (hards es) xs a) j;
+      admits = fun-ext (λ a. ap (λ cs. satisfied-all cs a) hs ∙ satisfied-append (hards es) (xs ∷ []) a ∙ ap (λ b. satisfied-all (hards es) a && b) (and-true (satisfied-by a xs))) j;
       softs = ss j;
       free-softs = same j;
       free-clauses = ce j;

@@ -1,3 +1,3 @@
 pub mod Entries
 pub mod Tabled
-pub mod Meant
+pub mod Trying

@@ -9,7 +9,7 @@ use lib.ListN.{length, getD, take}
 use Rattle.std.specs.declared.option.Option.{Option}
 use Rattle.terms.specs.Clauses.{bad-literal}
 use Rattle.terms.specs.declared.refusals.Refusal.{Refusal}
-use Rattle.finders.specs.Meanings.{FinderMeaning, fresh, with-hard, with-soft}
+use Rattle.finders.specs.Meanings.{FinderMeaning, Limited, fresh, with-hard, with-soft}
 use Rattle.finders.specs.Refused.{too-many, hard-refused, soft-refused}
 use Rattle.tables.specs.Entries.{Entry, entry, hards, softs, satisfied-all, numbered, blank}
 use Rattle.tables.specs.declared.records.ClauseKind.{ClauseKind}
@@ -31,9 +31,6 @@ meaning-of t = record {
 }
 
 -- ---- what holds of the tables
-abbrev pub Small : Tables → Type 0
-Small t = (t .n ≤ 256) × (t .softs ≤ t .limit) × (t .limit ≤ 64)
-
 abbrev pub Roomy : Tables → Type 0
 Roomy t = (t .used ≤ length (now (t .records))) × (t .filled ≤ length (now (t .literals))) × (length (now (t .literals)) ≤ 32768)
 
@@ -45,11 +42,12 @@ Inside t = (k : ℕ) → k < t .used → getD (now (t .records)) k blank .place 
 abbrev pub Proper : Tables → Type 0
 Proper t = (k : ℕ) → k < t .filled → bad-literal (t .n) (getD (now (t .literals)) k (pos 0)) ≡ false
 
+-- soft clauses have their numbers in order, and there are as many as were counted, and no more than can be
 abbrev pub Numbered : Tables → Type 0
-Numbered t = (numbered 0 (held t) ≡ true) × (length (softs (held t)) ≡ t .softs)
+Numbered t = (numbered 0 (held t) ≡ true) × (length (softs (held t)) ≡ t .softs) × (t .softs ≤ t .limit)
 
 pub record Valid (t : Tables) : Type 0 where
-  pub small : Small t
+  pub limited : Limited (meaning-of t)
   pub roomy : Roomy t
   pub inside : Inside t
   pub proper : Proper t

@@ -1,13 +1,13 @@
-//! The clause tables: every clause a finder keeps, in memory that the caller lends.
+//! Clause tables in memory that the caller lends, and the finders that keep their clauses in them.
 mod adding;
-mod clause_tables;
+mod count_through;
+mod counting;
 mod making;
 mod reading;
 mod records;
 mod tables;
+mod trying;
 
-pub use clause_tables::ClauseTables;
-pub use making::check_variables;
-pub use records::Clause;
-pub use records::ClauseKind;
+pub use count_through::CountThrough;
+pub use counting::CountThroughFinder;
 pub use records::ClauseRecord;

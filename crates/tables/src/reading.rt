@@ -8,37 +8,36 @@ ghost use Rattle.terms.specs.Refusals.{told};
 ghost use Rattle.terms.specs.Sets.{mask};
 ghost use Rattle.finders.specs.Questions.{Told-broken};
 ghost use Rattle.finders.specs.Refused.{ask-refused, broken-refused};
-ghost use Rattle.tables.specs.Entries.{Shown};
-ghost use Rattle.tables.specs.Tabled.{held};
-ghost use Rattle.tables.specs.Meant.{means};
-use crate::clause_tables::ClauseTables;
-use crate::records::Clause;
+ghost use Rattle.tables.specs.Tabled.{Valid, meaning-of};
+use crate::tables::Tables;
 use crate::records::ClauseKind;
 use terms::Refusal;
 use terms::SoftSet;
 use terms::is_binary;
 use terms::satisfies;
 
-impl ClauseTables<'_> {
-    pub fn variables(&self) -> usize
-        ensures { λ r. ⌜ r ≡ means (now (self .entry)) .n ⌝ }
+impl Tables<'_> {
+    pub(crate) fn variables(&self) -> usize
+        ensures { λ r. ⌜ r ≡ meaning-of (now (self .entry)) .n ⌝ }
     {
-        self.tables.n
+        self.n
     }
 
-    pub fn soft_count(&self) -> usize
-        ensures { λ r. ⌜ r ≡ length (means (now (self .entry)) .softs) ⌝ }
+    pub(crate) fn soft_count(&self) -> usize
+        requires { ⌜ Valid (now self) ⌝ }
+        ensures { λ r. ⌜ r ≡ length (meaning-of (now (self .entry)) .softs) ⌝ }
     {
-        self.tables.softs
+        self.softs
     }
 
     /// Why asking for the set with the buffer is refused, if it is.
-    pub fn ask_refusal(&self, set: SoftSet, buffer: &[u8]) -> Option<Refusal>
-        ensures { λ r. ⌜ r ≡ ask-refused (means (now (self .entry))) (mask set) (now (buffer .entry)) ⌝ }
+    pub(crate) fn ask_refusal(&self, set: SoftSet, buffer: &[u8]) -> Option<Refusal>
+        requires { ⌜ Valid (now self) ⌝ }
+        ensures { λ r. ⌜ r ≡ ask-refused (meaning-of (now (self .entry))) (mask set) (now (buffer .entry)) ⌝ }
     {
-        if buffer.len() < self.tables.n {
+        if buffer.len() < self.n {
             Some(Refusal::TooShort)
-        } else if !set.all_below(self.tables.softs) {
+        } else if !set.all_below(self.softs) {
             Some(Refusal::UnknownSoft)
         } else {
             None
@@ -46,11 +45,12 @@ impl ClauseTables<'_> {
     }
 
     /// Which soft clauses the assignment in the first n bytes breaks.
-    pub fn broken(&self, assignment: &[u8]) -> Result<SoftSet, Refusal>
-        ensures refusal { λ r. ⌜ told r ≡ broken-refused (means (now (self .entry))) (now (assignment .entry)) ⌝ }
-        ensures answer { λ r. ⌜ Told-broken (means (now (self .entry))) (now (assignment .entry)) r ⌝ }
+    pub(crate) fn broken(&self, assignment: &[u8]) -> Result<SoftSet, Refusal>
+        requires { ⌜ Valid (now self) ⌝ }
+        ensures refusal { λ r. ⌜ told r ≡ broken-refused (meaning-of (now (self .entry))) (now (assignment .entry)) ⌝ }
+        ensures answer { λ r. ⌜ Told-broken (meaning-of (now (self .entry))) (now (assignment .entry)) r ⌝ }
     {
-        let n = self.tables.n;
+        let n = self.n;
         if assignment.len() < n {
             Err(Refusal::TooShort)
         } else if !is_binary(&assignment[..n]) {
@@ -61,11 +61,12 @@ impl ClauseTables<'_> {
     }
 
     fn broken_by(&self, assignment: &[u8]) -> SoftSet
-        ensures { λ r. ⌜ ((k : ℕ) → member (mask r) k ≡ breaks (now (assignment .entry)) (means (now (self .entry)) .softs) k) ⌝ }
+        requires { ⌜ Valid (now self) ⌝ }
+        ensures { λ r. ⌜ ((k : ℕ) → member (mask r) k ≡ breaks (now (assignment .entry)) (meaning-of (now (self .entry)) .softs) k) ⌝ }
     {
         let mut broken = SoftSet::empty();
-        for k in 0..self.clause_count() {
-            let clause = self.tables.at(k);
+        for k in 0..self.count() {
+            let clause = self.at(k);
             match clause.kind {
                 ClauseKind::Hard => {}
                 ClauseKind::Soft(number) => {
@@ -76,19 +77,5 @@ impl ClauseTables<'_> {
             }
         }
         broken
-    }
-
-    /// How many clauses there are, hard and soft.
-    pub fn clause_count(&self) -> usize
-        ensures { λ r. ⌜ r ≡ length (held (now (self .entry) .tables)) ⌝ }
-    {
-        self.tables.count()
-    }
-
-    /// The clause that came as number `k`, counted from 0.
-    pub fn clause(&self, k: usize) -> Option<Clause<'_>>
-        ensures { λ r. ⌜ Shown (held (now (self .entry) .tables)) k r ⌝ }
-    {
-        if k < self.clause_count() { Some(self.tables.at(k)) } else { None }
     }
 }

@@ -33,18 +33,21 @@ returns c =
     let long = ap length e ∙ pasted-length (t .literals .now) (t .filled) xs fit in
     let one : Entry = record { kind = k; clause = xs } in
     let hs = held-push (t .records .now) (t .used) (t .literals .now) (t .filled) xs k low free (v .inside) (c .copy-at .last .whole) e in
-    let count = counted k (t .softs) (t .limit) (a .soft-place) (v .small .1) in
+    let count = counted k (t .softs) (t .limit) (a .soft-place) (v .numbered .2) in
     let softs-are = c .softs-with-self .ensures in
+    let more = ap (λ es. length (softs es)) hs ∙ softs-push (held t) one ∙ ap (λ s. softs-after s k) (v .numbered .1) ∙ sym softs-are in
+    let within : c .softs-with-self .result ≤ t .limit = subst (λ s. s ≤ t .limit) (sym softs-are) (count .1) in
     record {
       valid = record {
-        small = (v .small .0, subst (λ s. s ≤ t .limit) (sym softs-are) (count .1), v .small .2);
+        limited = (v .limited .0, omega (arith, more, within, v .limited .1, v .numbered .1, v .numbered .2));
         roomy = (search (needs, length-set), omega (arith, long), omega (arith, long));
         inside = inside-push (t .records .now) (t .used) (t .filled) (t .filled + length xs) _ free (omega arith) (v .inside) (omega arith);
         proper = subst (λ ls. (i : ℕ) → i < t .filled + length xs → bad-literal (t .n) (getD ls i (pos 0)) ≡ false) (sym e)
             (proper-pasted (t .n) (t .literals .now) (t .filled) xs low (v .proper) (a .proper));
         numbered = (
               ap (numbered 0) hs ∙ numbered-push 0 (held t) one (v .numbered .0) (ap (λ s. well-numbered s k) (let z : 0 + length (softs (held t)) ≡ t .softs = omega (arith, v .numbered .1) in z) ∙ c .pre .number),
-              ap (λ es. length (softs es)) hs ∙ softs-push (held t) one ∙ ap (λ s. softs-after s k) (v .numbered .1) ∙ sym softs-are,
+              more,
+              within,
             );
       };
       means = means-push (t .n) (held t) _ k xs _ _ _ _ _ _ hs

@@ -1,26 +1,26 @@
 use mathlib.Core.Path.{_≡_, refl, sym, ap, ap₂, _∙_}
 use mathlib.Core.Bool.{Bool, true, false, not, _&&_, _||_}
-use Prim.Native.Nat.{ℕ, _+_, _-_}
+use Prim.Native.Nat.{ℕ, _+_}
 use native.Mathlib.Omega.{arith}
-use lib.Dec.{eqb, leb}
+use lib.Dec.{eqb}
 use lib.ListN.{length, drop}
 use denote.Ref.{now}
 use Rattle.std.proofs.shelf.Lists.{at-drop-more, at-drop-all}
-use Rattle.std.proofs.shelf.Tests.{and-right, le-leb}
-use Rattle.terms.specs.Clauses.{breaks}
+use Rattle.std.proofs.shelf.Tests.{and-right}
 use Rattle.terms.specs.Masks.{member}
 use Rattle.terms.specs.Sets.{mask, fits}
 use Rattle.terms.proofs.ClauseLaws.{all-fit}
 use Rattle.tables.specs.Entries.{softs, no-entry}
 use Rattle.tables.specs.Tabled.{held}
-use Rattle.tables.proofs.Breaking.{broken-as, broken-in, broken-numbered, next-broken, not-broken, soft-broken}
-use Rattle.tables.proofs.clause_tables.ClauseTables.broken_by.Needs as need
-use Rattle.tables.proofs.clause_tables.ClauseTables.broken_by.Needs.{in-Hard, in-Soft·then-not-satisfies, in-Soft·else-not-satisfies}
+use Rattle.tables.proofs.Pushed.{and-true}
+use Rattle.tables.proofs.Breaking.{broken-as, broken-in, broken-is, next-broken, not-broken, soft-broken}
+use Rattle.tables.proofs.tables.Tables.broken_by.Needs as need
+use Rattle.tables.proofs.tables.Tables.broken_by.Needs.{in-Hard, in-Soft·then-not-satisfies, in-Soft·else-not-satisfies}
 
 pub loop-k-again : need.loop-k-again
 loop-k-again c j =
     let a = c .args .assignment .now in
-    let es = held (c .args .self .now .tables) in
+    let es = held (c .args .self .now) in
     let i = c .loop-k .k in
     let clause = c .at-clause .result in
     let rest = broken-in (drop (i + 1) es) a j in
@@ -41,23 +41,17 @@ loop-k-again c j =
           ∙ not-broken m q (fits j)
             (soft-broken a j (w .in-Soft .number) (clause .kind) (now (clause .literals)) true (w .in-Soft .is) (w .if-not-satisfies .ensures tt .value) ∙ and-right (eqb (w .in-Soft .number) j) false refl)
     ])
-  where
-    and-true : (x : Bool) → (x && true) ≡ x
-    and-true true = refl
-    and-true false = refl
 
 pub returns : need.returns
 returns c j =
     let a = c .args .assignment .now in
-    let es = held (c .args .self .now .tables) in
+    let es = held (c .args .self .now) in
     let m = member (mask (c .loop-k .broken)) j in
     let done : broken-in (drop (c .loop-k .k) es) a j ≡ false = at-drop-all (λ fs. broken-in fs a j) es (c .loop-k .k) (omega arith) in
     or-nothing m (broken-in (drop (c .loop-k .k) es) a j && fits j) (ap (λ b. b && fits j) done)
     ∙ c .loop-k .inv j
-    ∙ ap (λ b. b && fits j) (broken-numbered 0 es a j (c .args .self .now .numbered .0))
-    ∙ ap (λ i. (leb 0 j && breaks a (softs es) i) && fits j) (let z : j - 0 ≡ j = omega arith in z)
-    ∙ ap (λ b. (b && breaks a (softs es) j) && fits j) (le-leb 0 j (omega arith))
-    ∙ all-fit a (softs es) j (omega (arith, c .args .self .now .numbered .1, c .args .self .now .small))
+    ∙ ap (λ b. b && fits j) (broken-is es a j (c .pre .numbered .0))
+    ∙ all-fit a (softs es) j (omega (arith, c .pre .limited .1))
   where
     or-nothing : (x y : Bool) → y ≡ false → x ≡ (x || y)
     or-nothing true y e = refl
