@@ -140,7 +140,7 @@ same-below (suc n) x y hx hy h =
     (sym (member-first x) ∙ h 0 ∙ member-first y) in
     omega arith
 
-below-pow : (n : ℕ) → n < 2 ^ n
+pub below-pow : (n : ℕ) → n < 2 ^ n
 below-pow zero = omega arith
 below-pow (suc n) = let p : 2 ^ suc n ≡ 2 ^ n * 2 = pow-suc 2 n in omega (arith, below-pow n)
 

@@ -9,3 +9,6 @@ use Rattle.terms.specs.declared.refusals.Refusal.{Refusal}
 pub passes : (b : Bool) (r : Refusal) (rest : Option Refusal) → cond b (Some r) rest ≡ None → (b ≡ false) × (rest ≡ None)
 passes true r rest e = absurd (let z : _≡_ {A = Bool} true false = cc in true≢false z)
 passes false r rest e = (refl, e)
+
+pub never : (r : Refusal) (o : Option Refusal) → Some r ≡ o → o ≡ None → ⊥
+never r o p q = let z : _≡_ {A = Bool} true false = cc in true≢false z
