@@ -30,6 +30,8 @@ fewer s h = record { assigns = h .assigns; admitted = h .admitted; meets = λ j 
 pub needed-in-less : (m : FinderMeaning) (set less k : ℕ) → Subset less set → Needed m set k → Needed m less k
 needed-in-less m set less k s h rest w =
     let other = leave-out set k in
-    let model = h (other .0) (other .1) in
-    (model .0, fewer (λ j t. let p = and-parts (member less j) (not (eqb k j)) (sym (w j) ∙ t) in
-      other .1 j ∙ and-from (member set j) (not (eqb k j)) (s j (p .0)) (p .1)) (model .1))
+    let model = h (other .0) (other .1) in (
+      model .0,
+      fewer (λ j t. let p = and-parts (member less j) (not (eqb k j)) (sym (w j) ∙ t) in
+          other .1 j ∙ and-from (member set j) (not (eqb k j)) (s j (p .0)) (p .1)) (model .1),
+    )

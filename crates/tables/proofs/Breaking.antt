@@ -36,19 +36,19 @@ first-broken : (a : List ℕ) (c : List ℤ) (cs : List (List ℤ)) (s j : ℕ) 
 first-broken a c cs s j b e =
     ⊎-elim
     (λ (l : j < s).
-      ap₂ (λ x y. (x && not (satisfied-by a c)) || y) (ne-eqb s j (λ z. omega arith)) (e ∙ ap (λ x. x && breaks a cs (j - suc s)) (lt-leb (suc s) j (omega arith)))
-      ∙ sym (ap (λ x. x && breaks a (c ∷ cs) (j - s)) (lt-leb s j l)))
+    ap₂ (λ x y. (x && not (satisfied-by a c)) || y) (ne-eqb s j (λ z. omega arith)) (e ∙ ap (λ x. x && breaks a cs (j - suc s)) (lt-leb (suc s) j (omega arith)))
+    ∙ sym (ap (λ x. x && breaks a (c ∷ cs) (j - s)) (lt-leb s j l)))
     (λ (g : s ≤ j). ⊎-elim
-      (λ (l : s < j).
-        let k : j - s ≡ suc (j - suc s) = omega arith in
-        ap₂ (λ x y. (x && not (satisfied-by a c)) || y) (ne-eqb s j (λ z. omega arith)) (e ∙ ap (λ x. x && breaks a cs (j - suc s)) (le-leb (suc s) j (omega arith)))
-        ∙ sym (ap₂ (λ x i. x && breaks a (c ∷ cs) i) (le-leb s j g) k ∙ breaks-next a c cs (j - suc s)))
-      (λ (l : j ≤ s).
-        let k : j - s ≡ 0 = omega arith in
-        ap₂ (λ x y. (x && not (satisfied-by a c)) || y) (eq-eqb s j (omega arith)) (e ∙ ap (λ x. x && breaks a cs (j - suc s)) (lt-leb (suc s) j (omega arith)))
-        ∙ or-false (not (satisfied-by a c))
-        ∙ sym (ap₂ (λ x i. x && breaks a (c ∷ cs) i) (le-leb s j g) k ∙ breaks-first a c cs))
-      (cases-lt s j))
+    (λ (l : s < j).
+    let k : j - s ≡ suc (j - suc s) = omega arith in
+    ap₂ (λ x y. (x && not (satisfied-by a c)) || y) (ne-eqb s j (λ z. omega arith)) (e ∙ ap (λ x. x && breaks a cs (j - suc s)) (le-leb (suc s) j (omega arith)))
+    ∙ sym (ap₂ (λ x i. x && breaks a (c ∷ cs) i) (le-leb s j g) k ∙ breaks-next a c cs (j - suc s)))
+    (λ (l : j ≤ s).
+    let k : j - s ≡ 0 = omega arith in
+    ap₂ (λ x y. (x && not (satisfied-by a c)) || y) (eq-eqb s j (omega arith)) (e ∙ ap (λ x. x && breaks a cs (j - suc s)) (lt-leb (suc s) j (omega arith)))
+    ∙ or-false (not (satisfied-by a c))
+    ∙ sym (ap₂ (λ x i. x && breaks a (c ∷ cs) i) (le-leb s j g) k ∙ breaks-first a c cs))
+    (cases-lt s j))
     (cases-lt j s)
   where
     or-false : (x : Bool) → (x || false) ≡ x

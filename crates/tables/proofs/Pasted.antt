@@ -48,8 +48,8 @@ pub entry-kept : (ls : List ℤ) (a : ℕ) (xs : List ℤ) (r : ClauseRecord) �
 entry-kept ls a xs r h i =
     let q : r .place + r .size ≤ length (take a ls) = simp length-take (omega arith) in
     let e = sym (drop-take (r .place) (r .size) (pasted ls a xs))
-          ∙ ap (drop (r .place)) (take-append-le (r .place + r .size) (take a ls) (xs ++ drop (a + length xs) ls) q ∙ take-take (r .place + r .size) a ls i)
-          ∙ drop-take (r .place) (r .size) ls in
+    ∙ ap (drop (r .place)) (take-append-le (r .place + r .size) (take a ls) (xs ++ drop (a + length xs) ls) q ∙ take-take (r .place + r .size) a ls i)
+    ∙ drop-take (r .place) (r .size) ls in
     ap (λ c. record { kind = r .kind; clause = c }) e
 
 -- the clause that was written reads as it was

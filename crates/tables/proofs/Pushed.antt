@@ -147,5 +147,5 @@ pub inside-push : (rs : List ClauseRecord) (used f g : ℕ) (r : ClauseRecord) �
 inside-push rs used f g r free longer old new =
     below-more (λ k. getD (set rs used r) k blank .place + getD (set rs used r) k blank .size ≤ g) used
     (λ k l. let other : k ≢ used = omega arith in
-      subst (λ x. x .place + x .size ≤ g) (sym (getD-set-other rs used k r blank other)) (omega (arith, old k l)))
+    subst (λ x. x .place + x .size ≤ g) (sym (getD-set-other rs used k r blank other)) (omega (arith, old k l)))
     (subst (λ x. x .place + x .size ≤ g) (sym (getD-set-same rs used r blank free)) new)

@@ -54,7 +54,7 @@ impl Tables<'_> {
         requires { ⌜ Valid (now self) ⌝ }
         ensures { λ r. ⌜ r ≡ no-place (meaning-of (now (self .entry))) (now (clause .entry)) ⌝ }
     {
-        self.records.len() - self.used == 0 || self.literals.len() - self.filled < clause.len()
+        self.used == self.records.len() || self.literals.len() - self.filled < clause.len()
     }
 
     pub(crate) fn add_hard(&mut self, clause: &[i32]) -> Result<(), Refusal>

@@ -8,13 +8,12 @@ use Rattle.shrinking.proofs.shrink.Shrinking.shrink.Needs as need
 pub loop-number-again : need.loop-number-again
 loop-number-again g c =
     let m = g .F·Finder .meaning (c .args .self .now .below) in
-    let less = c .spare-small .ensures in
-    (
+    let less = c .spare-small .ensures in (
       less .core,
       (λ j h. c .loop-number .inv .1 j (less .within j h)),
       below-more _ _
-        (λ k l h. needed-in-less m (mask (c .loop-number .small)) (mask (c .spare-small .result)) k (less .within) (c .loop-number .inv .2 k l (less .within k h)))
-        (less .needed),
+          (λ k l h. needed-in-less m (mask (c .loop-number .small)) (mask (c .spare-small .result)) k (less .within) (c .loop-number .inv .2 k l (less .within k h)))
+          (less .needed),
     )
 
 pub returns : need.returns

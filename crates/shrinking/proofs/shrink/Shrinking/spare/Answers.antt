@@ -23,7 +23,7 @@ returns-in-Some g c =
     let k = c .args .number in
     let rest = c .in-Some .ensures tt in
     let out = λ (j : ℕ) (h : member (mask (c .in-Some .smaller)) j ≡ true).
-        and-parts (member (mask (c .args .core)) j) (not (eqb k j)) (sym (c .remove .ensures j) ∙ rest .1 j h) in
+    and-parts (member (mask (c .args .core)) j) (not (eqb k j)) (sym (c .remove .ensures j) ∙ rest .1 j h) in
     record {
       core = rest .0;
       within = λ j h. out j h .0;
@@ -34,5 +34,5 @@ pub returns-in-None : need.returns-in-None
 returns-in-None g c = record {
   core = c .pre;
   within = λ j h. h;
-  needed = λ h rest w. let model = c .in-None .ensures tt in (model .0, fewer (λ j t. c .remove .ensures j ∙ sym (w j) ∙ t) (model .1));
+  needed = λ h rest w. let model = c .in-None .ensures tt in (model .0, fewer {m = g .F·Finder .meaning (c .args .self .now .below)} (λ j t. c .remove .ensures j ∙ sym (w j) ∙ t) (model .1));
 }

@@ -25,21 +25,21 @@ loop-k-again c j =
     let clause = c .at-clause .result in
     let rest = broken-in (drop (i + 1) es) a j in
     let here : broken-in (drop i es) a j ≡ (broken-as a j (clause .kind) (now (clause .literals)) || rest) =
-        at-drop-more (λ fs. broken-in fs a j) es i no-entry (omega arith) ∙ ap (λ e. broken-as a j (e .kind) (e .clause) || rest) (sym (c .at-clause .ensures)) in
+    at-drop-more (λ fs. broken-in fs a j) es i no-entry (omega arith) ∙ ap (λ e. broken-as a j (e .kind) (e .clause) || rest) (sym (c .at-clause .ensures)) in
     let m = member (mask (c .loop-k .broken)) j in
     let q = broken-as a j (clause .kind) (now (clause .literals)) in
     let further : (m′ : Bool) → m′ ≡ (m || (q && fits j)) → (m′ || (rest && fits j)) ≡ (broken-in es a j && fits j) =
-        λ (m′ : Bool) e. next-broken m m′ q rest (fits j) (broken-in es a j && fits j) e (ap (λ x. m || (x && fits j)) (sym here) ∙ c .loop-k .inv j) in
+    λ (m′ : Bool) e. next-broken m m′ q rest (fits j) (broken-in es a j && fits j) e (ap (λ x. m || (x && fits j)) (sym here) ∙ c .loop-k .inv j) in
     further _ (elim (c .match-clause .came) [
       | in-Hard w ↦ ap (λ s. member (mask s) j) (w .broken-is) ∙ not-broken m q (fits j) (ap (λ k. broken-as a j k (now (clause .literals))) (w .in-Hard .is))
       | in-Soft·then-not-satisfies w ↦
           ap (λ s. member (mask s) j) (w .broken-is) ∙ w .insert-broken .ensures j
           ∙ ap (λ x. m || (x && fits j))
-            (sym (soft-broken a j (w .in-Soft .number) (clause .kind) (now (clause .literals)) false (w .in-Soft .is) (w .if-not-satisfies .ensures tt .value) ∙ and-true (eqb (w .in-Soft .number) j)))
+          (sym (soft-broken a j (w .in-Soft .number) (clause .kind) (now (clause .literals)) false (w .in-Soft .is) (w .if-not-satisfies .ensures tt .value) ∙ and-true (eqb (w .in-Soft .number) j)))
       | in-Soft·else-not-satisfies w ↦
           ap (λ s. member (mask s) j) (w .broken-is)
           ∙ not-broken m q (fits j)
-            (soft-broken a j (w .in-Soft .number) (clause .kind) (now (clause .literals)) true (w .in-Soft .is) (w .if-not-satisfies .ensures tt .value) ∙ and-right (eqb (w .in-Soft .number) j) false refl)
+          (soft-broken a j (w .in-Soft .number) (clause .kind) (now (clause .literals)) true (w .in-Soft .is) (w .if-not-satisfies .ensures tt .value) ∙ and-right (eqb (w .in-Soft .number) j) false refl)
     ])
 
 pub returns : need.returns

@@ -45,10 +45,10 @@ returns c =
         proper = subst (λ ls. (i : ℕ) → i < t .filled + length xs → bad-literal (t .n) (getD ls i (pos 0)) ≡ false) (sym e)
             (proper-pasted (t .n) (t .literals .now) (t .filled) xs low (v .proper) (a .proper));
         numbered = (
-              ap (numbered 0) hs ∙ numbered-push 0 (held t) one (v .numbered .0) (ap (λ s. well-numbered s k) (let z : 0 + length (softs (held t)) ≡ t .softs = omega (arith, v .numbered .1) in z) ∙ c .pre .number),
-              more,
-              within,
-            );
+          ap (numbered 0) hs ∙ numbered-push 0 (held t) one (v .numbered .0) (ap (λ s. well-numbered s k) (let z : 0 + length (softs (held t)) ≡ t .softs = omega (arith, v .numbered .1) in z) ∙ c .pre .number),
+          more,
+          within,
+        );
       };
       means = means-push (t .n) (held t) _ k xs _ _ _ _ _ _ hs
           (ap (λ s. t .limit - s) softs-are ∙ count .0) (simp length-set (omega arith)) (omega (arith, long));

@@ -18,8 +18,7 @@ returns-in-Some c =
     let well = asked-well (meaning-of t) (mask (c .args .set)) before (c .pre .fine) in
     let all : length (take (t .n) before) ≡ t .n = simp length-take (omega (arith, well .0)) in
     let written = c .write-digits .ensures ∙ ap (λ n. digits n (c .in-Some .number)) all in
-    let long = ap length written ∙ digits-assign (t .n) (c .in-Some .number) .0 in
-    (
+    let long = ap length written ∙ digits-assign (t .n) (c .in-Some .number) .0 in (
       subst (Model (meaning-of t) (mask (c .args .set))) (sym (take-at (c .write-digits .last .bytes) (drop (t .n) before) (t .n) long ∙ written)) (c .in-Some .ensures tt),
       drop-at (c .write-digits .last .bytes) (drop (t .n) before) (t .n) long,
     )
