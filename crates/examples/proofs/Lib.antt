@@ -1,1 +1,2 @@
+pub mod Opposites
 pub mod Computed

@@ -13,5 +13,5 @@ pub fn worked_examples() -> usize
 fn count() -> usize
     ensures { λ r. ⌜ r ≡ how-many examples ⌝ }
 {
-    11
+    15
 }

@@ -10,7 +10,7 @@ use lib.Dec.{eqb, ltb}
 use lib.IntN.{ℤ}
 use lib.ListN.{length, getD}
 use Rattle.std.specs.declared.option.Option.the-variants.{None}
-use Rattle.std.proofs.shelf.Tests.{cases-lt, lt-ltb, le-ltb, and-left, both-ways, ltb-true}
+use Rattle.std.proofs.shelf.Tests.{cases-lt, lt-ltb, le-ltb, and-left, both-ways}
 use Rattle.std.proofs.shelf.Ways.{tells}
 use Rattle.terms.specs.Clauses.{satisfied-by, breaks}
 use Rattle.terms.specs.Sets.{fits}

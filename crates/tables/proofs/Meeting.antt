@@ -1,7 +1,7 @@
 -- Whether an assignment meets the hard clauses and those of a set, clause by clause through the tables.
 use mathlib.Core.Path.{_≡_, refl, sym, ap, _∙_}
 use mathlib.Core.Bool.{Bool, true, false, not, _&&_, _||_}
-use mathlib.Core.List.{List, [], _∷_, _++_}
+use mathlib.Core.List.{List, [], _∷_}
 use mathlib.Core.Logic.{⊎-elim}
 use Prim.Native.Nat.{ℕ, _+_, _<_}
 use lib.Dec.{eqb}
@@ -82,8 +82,8 @@ met-decides set a es n =
     (all-unbroken set a es)
 
 -- ---- one clause further: what is left decides, and b says of the clause at k whether it is met
-pub next-met : (set : ℕ) (a : List ℕ) (es : List Entry) (k : ℕ) (e : Entry) (b : Bool) → k < length es → e ≡ getD es k no-entry → met set a (e .kind) (e .clause) ≡ b
+pub next-met : (set : ℕ) (a : List ℕ) (es : List Entry) (k : ℕ) (e : Entry) (b : Bool) → k < length es → e ≡ getD es k no-entry → b ≡ met set a (e .kind) (e .clause)
     → all-met set a (drop k es) ≡ all-met set a es → (b && all-met set a (drop (k + 1) es)) ≡ all-met set a es
 next-met set a es k e b l at m inv =
-    ap (λ x. x && all-met set a (drop (k + 1) es)) (sym m ∙ ap (λ x. met set a (x .kind) (x .clause)) at)
+    ap (λ x. x && all-met set a (drop (k + 1) es)) (m ∙ ap (λ x. met set a (x .kind) (x .clause)) at)
     ∙ sym (at-drop-more (all-met set a) es k no-entry l) ∙ inv

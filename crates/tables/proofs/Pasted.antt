@@ -1,5 +1,5 @@
 -- The table of literals with a clause written behind those in use.
-use mathlib.Core.Path.{_≡_, refl, sym, ap, subst, _∙_}
+use mathlib.Core.Path.{_≡_, refl, sym, ap, _∙_}
 use mathlib.Core.Bool.{false}
 use mathlib.Core.List.{List, [], _∷_, _++_, map}
 use mathlib.Core.Logic.{⊎-elim}
@@ -10,7 +10,7 @@ use lib.IntN.{ℤ, pos}
 use Rattle.std.proofs.shelf.Tests.{cases-lt}
 use Rattle.std.proofs.shelf.Lists.{take-at, drop-at, take-append-le, take-take, drop-take, length-take, length-drop, length-append, getD-append-left, getD-append-right, getD-take}
 use Rattle.terms.specs.Clauses.{bad-literal}
-use Rattle.tables.specs.Entries.{Entry, entry, blank}
+use Rattle.tables.specs.Entries.{entry, blank}
 use Rattle.tables.specs.declared.records.ClauseKind.{ClauseKind}
 use Rattle.tables.specs.declared.records.ClauseRecord.{ClauseRecord}
 

@@ -3,11 +3,11 @@ use mathlib.Core.Path.{_≡_, refl, sym, ap, ap₂, subst, _∙_, fun-ext}
 use mathlib.Core.Logic.{_≢_}
 use mathlib.Core.Bool.{Bool, true, false, _&&_}
 use mathlib.Core.List.{List, [], _∷_, _++_, map}
-use Prim.Native.Nat.{ℕ, zero, suc, _+_, _-_, _≤_, _<_}
+use Prim.Native.Nat.{ℕ, _+_, _-_, _≤_, _<_}
 use native.Mathlib.Omega.{arith}
 use borrow.Author.Count.{below-more}
 use lib.Dec.{eqb, ltb}
-use lib.IntN.{ℤ, pos}
+use lib.IntN.{ℤ}
 use lib.ListN.{length, getD, set, take}
 use Rattle.std.specs.declared.option.Option.the-variants.{None}
 use Rattle.std.proofs.shelf.Lists.{take-more-set, map-append, append-assoc, append-nil, length-append, getD-set-same, getD-set-other}
@@ -16,9 +16,9 @@ use Rattle.terms.specs.Clauses.{satisfied-by, First-bad}
 use Rattle.terms.proofs.ClauseLaws.{all-good}
 use Rattle.terms.proofs.RefusalLaws.{passes}
 use Rattle.finders.specs.Meanings.{FinderMeaning}
-use Rattle.finders.specs.Refused.{too-long, has-bad, no-soft-place, no-place}
+use Rattle.finders.specs.Refused.{too-long, has-bad, no-place}
 use Rattle.tables.specs.Entries.{Entry, entry, parts, hards, softs, hard-part, soft-part, satisfied-all, well-numbered, softs-after, numbered, blank}
-use Rattle.tables.specs.Tabled.{refused-as, with-clause}
+use Rattle.tables.specs.Tabled.{lacks-soft-place, refused-as, with-clause}
 use Rattle.tables.specs.declared.records.ClauseKind.{ClauseKind}
 use Rattle.tables.specs.declared.records.ClauseKind.the-variants.{Hard, Soft}
 use Rattle.tables.specs.declared.records.ClauseRecord.{ClauseRecord}
@@ -32,28 +32,23 @@ pub record Accepted (k : ClauseKind) (m : FinderMeaning) (c : List ℤ) : Type 0
   pub literals : length c ≤ m .free-literals
   pub soft-place : softs-after 0 k ≤ m .free-softs
 
-known : (k : ClauseKind) (m : FinderMeaning) (c : List ℤ) → too-long c ≡ false → has-bad (m .n) c ≡ false → no-place m c ≡ false → softs-after 0 k ≤ m .free-softs
-    → Accepted k m c
-known k m c long bad full soft =
-    let room = or-parts (eqb (m .free-clauses) 0) (ltb (m .free-literals) (length c)) full in
-    record {
-      short = ltb-false 64 (length c) long;
-      proper = all-good (m .n) c bad;
-      place = omega (arith, eqb-false (m .free-clauses) 0 (room .0));
-      literals = ltb-false (m .free-literals) (length c) (room .1);
-      soft-place = soft;
-    }
+soft-room : (k : ClauseKind) (m : FinderMeaning) → lacks-soft-place k m ≡ false → softs-after 0 k ≤ m .free-softs
+soft-room Hard m e = omega arith
+soft-room (Soft i) m e = omega (arith, eqb-false (m .free-softs) 0 e)
 
 pub accepted : (k : ClauseKind) (m : FinderMeaning) (c : List ℤ) → refused-as k m c ≡ None → Accepted k m c
-accepted Hard m c e =
-    let short = passes (too-long c) _ _ e in
-    let good = passes (has-bad (m .n) c) _ _ (short .1) in
-    known Hard m c (short .0) (good .0) (passes (no-place m c) _ _ (good .1) .0) (omega arith)
-accepted (Soft i) m c e =
-    let short = passes (too-long c) _ _ e in
-    let good = passes (has-bad (m .n) c) _ _ (short .1) in
-    let soft = passes (no-soft-place m) _ _ (good .1) in
-    known (Soft i) m c (short .0) (good .0) (passes (no-place m c) _ _ (soft .1) .0) (omega (arith, eqb-false (m .free-softs) 0 (soft .0)))
+accepted k m c e =
+    let long = passes (too-long c) _ _ e in
+    let bad = passes (has-bad (m .n) c) _ _ (long .1) in
+    let soft = passes (lacks-soft-place k m) _ _ (bad .1) in
+    let room = or-parts (eqb (m .free-clauses) 0) (ltb (m .free-literals) (length c)) (passes (no-place m c) _ _ (soft .1) .0) in
+    record {
+      short = ltb-false 64 (length c) (long .0);
+      proper = all-good (m .n) c (bad .0);
+      place = omega (arith, eqb-false (m .free-clauses) 0 (room .0));
+      literals = ltb-false (m .free-literals) (length c) (room .1);
+      soft-place = soft-room k m (soft .0);
+    }
 
 -- ---- lists of clauses with one more at the end
 parts-push : (f : ClauseKind → List ℤ → List (List ℤ)) (es : List Entry) (e : Entry) → parts f (es ++ e ∷ []) ≡ parts f es ++ f (e .kind) (e .clause)

@@ -1,16 +1,19 @@
 -- What the tables hold, what holds of them, and what they mean.
 use mathlib.Core.Path.{_≡_}
-use mathlib.Core.Bool.{true, false, cond}
-use mathlib.Core.List.{List, map}
+use mathlib.Core.Bool.{Bool, true, false, cond}
+use mathlib.Core.List.{List, [], _∷_, map}
 use Prim.Native.Nat.{ℕ, _+_, _-_, _≤_, _<_, min}
 use denote.Ref.{now}
 use lib.IntN.{ℤ, pos}
 use lib.ListN.{length, getD, take}
 use Rattle.std.specs.declared.option.Option.{Option}
 use Rattle.terms.specs.Clauses.{bad-literal}
+use Rattle.terms.specs.Refusals.{earliest}
+use Rattle.terms.specs.declared.refusals.Part.the-variants.{Finder}
 use Rattle.terms.specs.declared.refusals.Refusal.{Refusal}
+use Rattle.terms.specs.declared.refusals.Refusal.the-variants.{ClauseTooLong, BadLiteral, NoSoftPlace, NoClausePlace}
 use Rattle.finders.specs.Meanings.{FinderMeaning, Limited, fresh, with-hard, with-soft}
-use Rattle.finders.specs.Refused.{too-many, hard-refused, soft-refused}
+use Rattle.finders.specs.Refused.{too-many, too-long, has-bad, no-soft-place, no-place}
 use Rattle.tables.specs.Entries.{Entry, entry, hards, softs, satisfied-all, numbered, blank}
 use Rattle.tables.specs.declared.records.ClauseKind.{ClauseKind}
 use Rattle.tables.specs.declared.records.ClauseKind.the-variants.{Hard, Soft}
@@ -58,9 +61,14 @@ abbrev pub made-for : ℕ → ℕ → ℕ → ℕ → FinderMeaning
 made-for most n records literals = cond (too-many most n) (fresh 0 0 0 0) (fresh n 64 (min records 32768) (min literals 32768))
 
 -- ---- adding a clause of either kind
+abbrev pub lacks-soft-place : ClauseKind → FinderMeaning → Bool
+lacks-soft-place Hard m = false
+lacks-soft-place (Soft k) m = no-soft-place m
+
+-- at the two kinds these are what every finder refuses hard and soft clauses for
 abbrev pub refused-as : ClauseKind → FinderMeaning → List ℤ → Option Refusal
-refused-as Hard m c = hard-refused m c
-refused-as (Soft k) m c = soft-refused m c
+refused-as k m c =
+    earliest ((too-long c, ClauseTooLong) ∷ (has-bad (m .n) c, BadLiteral) ∷ (lacks-soft-place k m, NoSoftPlace Finder) ∷ (no-place m c, NoClausePlace) ∷ [])
 
 abbrev pub with-clause : ClauseKind → FinderMeaning → List ℤ → FinderMeaning
 with-clause Hard m c = with-hard m c

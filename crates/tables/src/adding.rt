@@ -1,23 +1,37 @@
-//! Adding clauses, and what that is refused for.
+//! Adding clauses of either kind, and what that is refused for.
 ghost use mathlib.Core.Path.{_≡_};
+ghost use mathlib.Core.Bool.{true};
 ghost use Rattle.terms.specs.Refusals.{told, unless-refused};
-ghost use Rattle.finders.specs.Meanings.{with-hard, with-soft};
-ghost use Rattle.finders.specs.Refused.{hard-refused, soft-refused, has-bad, no-place};
-ghost use Rattle.tables.specs.Tabled.{Valid, meaning-of};
+ghost use Rattle.finders.specs.Refused.{has-bad, no-place};
+ghost use Rattle.tables.specs.Entries.{well-numbered};
+ghost use Rattle.tables.specs.Tabled.{Valid, meaning-of, lacks-soft-place, refused-as, with-clause};
+ghost use Rattle.tables.specs.declared.records.ClauseKind.the-variants.{Soft};
+use crate::records::ClauseKind;
 use crate::tables::Tables;
 use terms::Part;
 use terms::Refusal;
 use terms::first_bad_literal;
 
 impl Tables<'_> {
-    pub(crate) fn hard_refusal(&self, clause: &[i32]) -> Option<Refusal>
+    /// The kind of the next soft clause.
+    pub(crate) fn next_soft(&self) -> ClauseKind
         requires { ⌜ Valid (now self) ⌝ }
-        ensures { λ r. ⌜ r ≡ hard-refused (meaning-of (now (self .entry))) (now (clause .entry)) ⌝ }
+        ensures { λ r. ⌜ r ≡ Soft (now (self .entry) .softs) ⌝ }
+    {
+        ClauseKind::Soft(self.softs as u8)
+    }
+
+    /// Why the clause would be refused, if it would.
+    pub(crate) fn refusal(&self, kind: ClauseKind, clause: &[i32]) -> Option<Refusal>
+        requires { ⌜ Valid (now self) ⌝ }
+        ensures { λ r. ⌜ r ≡ refused-as kind (meaning-of (now (self .entry))) (now (clause .entry)) ⌝ }
     {
         if clause.len() > 64 {
             Some(Refusal::ClauseTooLong)
         } else if self.is_bad(clause) {
             Some(Refusal::BadLiteral)
+        } else if self.lacks_soft_place(kind) {
+            Some(Refusal::NoSoftPlace(Part::Finder))
         } else if self.is_full(clause) {
             Some(Refusal::NoClausePlace)
         } else {
@@ -25,20 +39,20 @@ impl Tables<'_> {
         }
     }
 
-    pub(crate) fn soft_refusal(&self, clause: &[i32]) -> Option<Refusal>
-        requires { ⌜ Valid (now self) ⌝ }
-        ensures { λ r. ⌜ r ≡ soft-refused (meaning-of (now (self .entry))) (now (clause .entry)) ⌝ }
+    /// Adds the clause behind the others.
+    pub(crate) fn add(&mut self, kind: ClauseKind, clause: &[i32]) -> Result<(), Refusal>
+        requires valid { ⌜ Valid (now self) ⌝ }
+        requires number { ⌜ well-numbered (now self .softs) kind ≡ true ⌝ }
+        ensures valid { λ _. ⌜ Valid (now (self .exit)) ⌝ }
+        ensures refusal { λ r. ⌜ told r ≡ refused-as kind (meaning-of (now (self .entry))) (now (clause .entry)) ⌝ }
+        ensures meaning { λ r. ⌜ meaning-of (now (self .exit)) ≡ unless-refused (told r) (with-clause kind (meaning-of (now (self .entry))) (now (clause .entry))) (meaning-of (now (self .entry))) ⌝ }
     {
-        if clause.len() > 64 {
-            Some(Refusal::ClauseTooLong)
-        } else if self.is_bad(clause) {
-            Some(Refusal::BadLiteral)
-        } else if self.softs == self.limit {
-            Some(Refusal::NoSoftPlace(Part::Finder))
-        } else if self.is_full(clause) {
-            Some(Refusal::NoClausePlace)
-        } else {
-            None
+        match self.refusal(kind, clause) {
+            Some(refusal) => Err(refusal),
+            None => {
+                self.push(kind, clause);
+                Ok(())
+            }
         }
     }
 
@@ -49,41 +63,22 @@ impl Tables<'_> {
         first_bad_literal(clause, self.n).is_some()
     }
 
+    /// Whether the clause is soft, and there is no place for one more of these.
+    fn lacks_soft_place(&self, kind: ClauseKind) -> bool
+        requires { ⌜ Valid (now self) ⌝ }
+        ensures { λ r. ⌜ r ≡ lacks-soft-place kind (meaning-of (now (self .entry))) ⌝ }
+    {
+        match kind {
+            ClauseKind::Hard => false,
+            ClauseKind::Soft(_) => self.softs == self.limit,
+        }
+    }
+
     /// Whether there is no place for one clause more, or for its literals.
     fn is_full(&self, clause: &[i32]) -> bool
         requires { ⌜ Valid (now self) ⌝ }
         ensures { λ r. ⌜ r ≡ no-place (meaning-of (now (self .entry))) (now (clause .entry)) ⌝ }
     {
         self.used == self.records.len() || self.literals.len() - self.filled < clause.len()
-    }
-
-    pub(crate) fn add_hard(&mut self, clause: &[i32]) -> Result<(), Refusal>
-        requires { ⌜ Valid (now self) ⌝ }
-        ensures valid { λ _. ⌜ Valid (now (self .exit)) ⌝ }
-        ensures refusal { λ r. ⌜ told r ≡ hard-refused (meaning-of (now (self .entry))) (now (clause .entry)) ⌝ }
-        ensures meaning { λ r. ⌜ meaning-of (now (self .exit)) ≡ unless-refused (told r) (with-hard (meaning-of (now (self .entry))) (now (clause .entry))) (meaning-of (now (self .entry))) ⌝ }
-    {
-        match self.hard_refusal(clause) {
-            Some(refusal) => Err(refusal),
-            None => {
-                self.push_hard(clause);
-                Ok(())
-            }
-        }
-    }
-
-    pub(crate) fn add_soft(&mut self, clause: &[i32]) -> Result<(), Refusal>
-        requires { ⌜ Valid (now self) ⌝ }
-        ensures valid { λ _. ⌜ Valid (now (self .exit)) ⌝ }
-        ensures refusal { λ r. ⌜ told r ≡ soft-refused (meaning-of (now (self .entry))) (now (clause .entry)) ⌝ }
-        ensures meaning { λ r. ⌜ meaning-of (now (self .exit)) ≡ unless-refused (told r) (with-soft (meaning-of (now (self .entry))) (now (clause .entry))) (meaning-of (now (self .entry))) ⌝ }
-    {
-        match self.soft_refusal(clause) {
-            Some(refusal) => Err(refusal),
-            None => {
-                self.push_soft(clause);
-                Ok(())
-            }
-        }
     }
 }

@@ -6,6 +6,7 @@ ghost use Rattle.finders.specs.Refused.{variables-refused};
 ghost use Rattle.tables.specs.Tabled.{meaning-of, made-for};
 use crate::count_through::CountThrough;
 use crate::making::check_variables;
+use crate::records::ClauseKind;
 use crate::records::ClauseRecord;
 use crate::tables::Tables;
 use finders::Answer;
@@ -45,19 +46,20 @@ pub impl<'a> Finder for CountThrough<'a> as CountThroughFinder {
     }
 
     fn hard_refusal(&self, clause: &[i32]) -> Option<Refusal> {
-        self.tables.hard_refusal(clause)
+        self.tables.refusal(ClauseKind::Hard, clause)
     }
 
     fn soft_refusal(&self, clause: &[i32]) -> Option<Refusal> {
-        self.tables.soft_refusal(clause)
+        self.tables.refusal(self.tables.next_soft(), clause)
     }
 
     fn add_hard(&mut self, clause: &[i32]) -> Result<(), Refusal> {
-        self.tables.add_hard(clause)
+        self.tables.add(ClauseKind::Hard, clause)
     }
 
     fn add_soft(&mut self, clause: &[i32]) -> Result<(), Refusal> {
-        self.tables.add_soft(clause)
+        let kind = self.tables.next_soft();
+        self.tables.add(kind, clause)
     }
 
     fn ask(&self, set: SoftSet, buffer: &mut [u8]) -> Result<Answer, Refusal> {

@@ -2,11 +2,10 @@
 ghost use mathlib.Core.Path.{_≡_};
 ghost use mathlib.Core.Bool.{true};
 ghost use mathlib.Core.List.{_++_};
-ghost use Prim.Native.Nat.{ℕ, _+_, _<_, _≤_, min};
+ghost use Prim.Native.Nat.{_+_, _<_, _≤_, min};
 ghost use lib.ListN.{length, getD, take, drop};
 ghost use Rattle.std.specs.declared.option.Option.the-variants.{None};
-ghost use Rattle.finders.specs.Meanings.{fresh, with-soft, with-hard};
-ghost use Rattle.finders.specs.Refused.{soft-refused, hard-refused};
+ghost use Rattle.finders.specs.Meanings.{fresh};
 ghost use Rattle.tables.specs.Entries.{as-entry, no-entry, softs-after, well-numbered};
 ghost use Rattle.tables.specs.Tabled.{Valid, held, meaning-of, refused-as, with-clause};
 use crate::records::Clause;
@@ -76,27 +75,8 @@ impl<'a> Tables<'a> {
         }
     }
 
-    pub(crate) fn push_soft(&mut self, clause: &[i32])
-        requires valid { ⌜ Valid (now self) ⌝ }
-        requires fine { ⌜ soft-refused (meaning-of (now self)) (now clause) ≡ None ⌝ }
-        ensures valid { λ _. ⌜ Valid (now (self .exit)) ⌝ }
-        ensures means { λ _. ⌜ meaning-of (now (self .exit)) ≡ with-soft (meaning-of (now (self .entry))) (now (clause .entry)) ⌝ }
-    {
-        let number = self.softs as u8;
-        self.push(ClauseKind::Soft(number), clause);
-    }
-
-    pub(crate) fn push_hard(&mut self, clause: &[i32])
-        requires valid { ⌜ Valid (now self) ⌝ }
-        requires fine { ⌜ hard-refused (meaning-of (now self)) (now clause) ≡ None ⌝ }
-        ensures valid { λ _. ⌜ Valid (now (self .exit)) ⌝ }
-        ensures means { λ _. ⌜ meaning-of (now (self .exit)) ≡ with-hard (meaning-of (now (self .entry))) (now (clause .entry)) ⌝ }
-    {
-        self.push(ClauseKind::Hard, clause);
-    }
-
     /// Writes the clause behind the others.
-    fn push(&mut self, kind: ClauseKind, clause: &[i32])
+    pub(crate) fn push(&mut self, kind: ClauseKind, clause: &[i32])
         requires valid { ⌜ Valid (now self) ⌝ }
         requires fine { ⌜ refused-as kind (meaning-of (now self)) (now clause) ≡ None ⌝ }
         requires number { ⌜ well-numbered (now self .softs) kind ≡ true ⌝ }

@@ -1,7 +1,8 @@
 //! Trying one assignment after another: assignment number j has the binary digits of j as its values.
 ghost use mathlib.Core.Path.{_≡_};
+ghost use mathlib.Core.List.{_++_};
 ghost use Prim.Native.Nat.{_≤_};
-ghost use lib.ListN.{length};
+ghost use lib.ListN.{length, drop};
 ghost use Rattle.std.specs.declared.option.Option.the-variants.{None};
 ghost use Rattle.std.specs.declared.result.Result.the-variants.{Ok};
 ghost use Rattle.std.specs.Orderings.{Decides};
@@ -25,10 +26,9 @@ impl Tables<'_> {
         requires fine { ⌜ ask-refused (meaning-of (now self)) (mask set) (now buffer) ≡ None ⌝ }
         ensures { λ r. ⌜ Asked (meaning-of (now (self .entry))) (mask set) (now (buffer .entry)) (Ok r) (now (buffer .exit)) ⌝ }
     {
-        let n = self.n;
         match self.first_model(set) {
             Some(number) => {
-                write_digits(&mut buffer[..n], number);
+                write_front(buffer, self.n, number);
                 Answer::Model
             }
             None => Answer::Core(set),
@@ -92,7 +92,15 @@ fn is_wanted(set: SoftSet, kind: ClauseKind) -> bool
     }
 }
 
-/// Writes the binary digits of a number, lowest first.
+/// Writes n binary digits of a number into the first n bytes, lowest first.
+fn write_front(buffer: &mut [u8], n: usize, number: u32)
+    requires { ⌜ n ≤ length (now buffer) ⌝ }
+    ensures { λ _. ⌜ now (buffer .exit) ≡ digits n number ++ drop n (now (buffer .entry)) ⌝ }
+{
+    write_digits(&mut buffer[..n], number);
+}
+
+/// Fills the bytes with the binary digits of a number, lowest first.
 fn write_digits(bytes: &mut [u8], number: u32)
     ensures { λ _. ⌜ now (bytes .exit) ≡ digits (length (now (bytes .entry))) number ⌝ }
 {

@@ -1,10 +1,10 @@
 use mathlib.Core.Path.{_≡_, sym, ap, _∙_}
-use Prim.Native.Nat.{ℕ, _+_, _-_, _≤_, _<_}
+use Prim.Native.Nat.{ℕ, _+_, _-_, _<_}
 use borrow.Author.Needs.{needs}
 use native.Mathlib.Omega.{arith}
 use lib.ListN.{length, getD, take, drop}
 use denote.Ref.{now}
-use Rattle.tables.specs.Entries.{Entry, blank}
+use Rattle.tables.specs.Entries.{blank}
 use Rattle.tables.specs.Tabled.{Valid, held}
 use Rattle.tables.specs.declared.tables.Tables.{Tables}
 use Rattle.tables.proofs.Held.{held-count, held-at}

@@ -1,12 +1,12 @@
-use mathlib.Core.Path.{_≡_, refl, sym, ap, subst}
-use Prim.Native.Nat.{ℕ, _+_, _*_, _%_, _^_, _<_, _≤_}
+use mathlib.Core.Path.{_≡_, refl, subst}
+use Prim.Native.Nat.{ℕ, _*_, _%_, _^_, _≤_}
 use native.Mathlib.Omega.{arith}
 use borrow.Author.Count.{below-more}
 use lib.Pow.{pow-mono}
 use Rattle.std.proofs.shelf.Tests.{both-ways}
 use Rattle.terms.specs.Sets.{mask}
 use Rattle.tables.specs.Tabled.{meaning-of}
-use Rattle.tables.specs.Trying.{Meets, digits}
+use Rattle.tables.specs.Trying.{Meets}
 use Rattle.tables.proofs.Digits.{digits-assign, each-counted}
 use Rattle.tables.proofs.tables.Tables.first_model.Needs as need
 

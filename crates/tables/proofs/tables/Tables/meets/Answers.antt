@@ -15,13 +15,13 @@ returns-then-not-is-met c =
     let set = mask (c .args .set) in
     let es = held (c .args .self .now) in
     decides-at false (all-met set a es)
-    (next-met set a es (c .loop-k .k) (as-entry (c .at .result)) false (omega arith) (c .at .ensures) (sym (c .if-not-is-met .ensures tt)) (c .loop-k .inv))
+    (next-met set a es (c .loop-k .k) (as-entry (c .at .result)) false (omega arith) (c .at .ensures) (c .if-not-is-met .ensures tt) (c .loop-k .inv))
     (met-decides set a es (c .pre .numbered .0))
 
 pub loop-k-again : need.loop-k-again
 loop-k-again c =
     next-met (mask (c .args .set)) (c .args .assignment .now) (held (c .args .self .now)) (c .loop-k .k) (as-entry (c .at .result)) true (omega arith) (c .at .ensures)
-    (sym (c .if-not-is-met .ensures tt)) (c .loop-k .inv)
+    (c .if-not-is-met .ensures tt) (c .loop-k .inv)
 
 pub returns : need.returns
 returns c =

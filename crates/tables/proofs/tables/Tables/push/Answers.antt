@@ -1,5 +1,5 @@
-use mathlib.Core.Path.{_≡_, refl, sym, ap, subst, _∙_}
-use mathlib.Core.Bool.{true, false}
+use mathlib.Core.Path.{_≡_, sym, ap, subst, _∙_}
+use mathlib.Core.Bool.{false}
 use Prim.Native.Nat.{ℕ, _+_, _-_, _≤_, _<_}
 use borrow.Author.Needs.{needs}
 use native.Mathlib.Omega.{arith}
@@ -8,10 +8,10 @@ use lib.ListN.{length, getD}
 use Rattle.std.proofs.shelf.Lists.{length-set}
 use Rattle.terms.specs.Clauses.{bad-literal}
 use Rattle.tables.specs.Entries.{Entry, softs, numbered, well-numbered, softs-after}
-use Rattle.tables.specs.Tabled.{held, meaning-of, Proper}
+use Rattle.tables.specs.Tabled.{held, meaning-of}
 use Rattle.tables.specs.declared.records.ClauseKind.{ClauseKind}
 use Rattle.tables.specs.declared.records.ClauseKind.the-variants.{Hard, Soft}
-use Rattle.tables.proofs.Pasted.{pasted, pasted-length, proper-pasted}
+use Rattle.tables.proofs.Pasted.{pasted-length, proper-pasted}
 use Rattle.tables.proofs.Pushed.{accepted, held-push, means-push, numbered-push, softs-push, inside-push}
 use Rattle.tables.proofs.tables.Tables.push.Needs as need
 
