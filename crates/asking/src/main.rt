@@ -43,6 +43,7 @@ fn main(rt: LibcRuntime) -> io::Result<()> {
     play_shrinking(&rt, finder)
 }
 
+/// The same over the shrinking layer. The finder is a type parameter here, as a borrowed one cannot be held by value elsewhere.
 fn play_shrinking<F: Finder + Drop>(rt: &LibcRuntime, below: F) -> io::Result<()> {
     play(rt, Shrinking::new(below))
 }
@@ -64,6 +65,7 @@ fn play<F: Finder + Drop>(rt: &LibcRuntime, finder: F) -> io::Result<()> {
     ask_all(rt, &finder)
 }
 
+/// The clause, and whether it was added.
 fn show_added(
     rt: &LibcRuntime,
     name: &str,
@@ -119,12 +121,18 @@ fn show_model<F: Finder>(rt: &LibcRuntime, finder: &F, plan: &[u8]) -> io::Resul
     }
 }
 
+/// The numbers of a set, or that there is none.
 fn show_set(rt: &LibcRuntime, set: SoftSet) -> io::Result<()> {
     if set.is_empty() {
         return print!(rt, " none");
     }
+    show_numbers(rt, 64, set)
+}
+
+/// Those numbers of a set that are below `count`.
+fn show_numbers(rt: &LibcRuntime, count: usize, set: SoftSet) -> io::Result<()> {
     let mut separator = " ";
-    for number in 0..64 {
+    for number in 0..count {
         if set.has(number) {
             print!(rt, "{separator}{number}")?;
             separator = " and ";
