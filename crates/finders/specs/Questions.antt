@@ -21,7 +21,7 @@ pub record Model (m : FinderMeaning) (set : ℕ) (a : List ℕ) : Type 0 where
   pub admitted : m .admits a ≡ true
   pub meets : (k : ℕ) → member set k ≡ true → breaks a (m .softs) k ≡ false
 
--- soft numbers whose clauses no admitted assignment satisfies together
+-- given soft numbers of which every admitted assignment breaks at least one
 pub record Core (m : FinderMeaning) (core : ℕ) : Type 0 where
   pub given : Below (length (m .softs)) core
   pub conflict : (a : List ℕ) → Model m core a → ⊥

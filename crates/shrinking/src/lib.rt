@@ -1,4 +1,4 @@
-//! The shrinking layer: a finder over any finder, whose cores have no member to spare.
+//! The shrinking layer: it stands on any finder, and its cores have no member to spare.
 mod finder;
 mod shrink;
 
