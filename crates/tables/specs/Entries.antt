@@ -1,14 +1,11 @@
 -- The clauses of a table in their order, each with its kind.
-use mathlib.Core.Path.{_≡_}
 use mathlib.Core.Bool.{Bool, true, _&&_}
 use mathlib.Core.List.{List, [], _∷_, _++_}
-use Prim.Native.Nat.{ℕ, suc, _≤_, _<_}
+use Prim.Native.Nat.{ℕ, suc}
 use denote.Ref.{now}
 use lib.Dec.{eqb}
 use lib.IntN.{ℤ}
-use lib.ListN.{length, getD, take, drop}
-use Rattle.std.specs.declared.option.Option.{Option}
-use Rattle.std.specs.declared.option.Option.the-variants.{Some, None}
+use lib.ListN.{take, drop}
 use Rattle.terms.specs.Clauses.{satisfied-by}
 use Rattle.tables.specs.declared.records.Clause.{Clause}
 use Rattle.tables.specs.declared.records.ClauseKind.{ClauseKind}
@@ -69,8 +66,3 @@ as-entry c = record { kind = c .kind; clause = now (c .literals) }
 
 abbrev pub no-entry : Entry
 no-entry = record { kind = Hard; clause = [] }
-
--- the clause at place k, none past the last
-abbrev pub Shown : List Entry → ℕ → Option Clause → Type 0
-Shown es k None = length es ≤ k
-Shown es k (Some c) = (k < length es) × (as-entry c ≡ getD es k no-entry)

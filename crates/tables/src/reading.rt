@@ -1,4 +1,4 @@
-//! What clause tables tell: counts, single clauses, and what an assignment breaks.
+//! What clause tables tell: counts, why a question is refused, and what an assignment breaks.
 ghost use mathlib.Core.Path.{_≡_};
 ghost use Prim.Native.Nat.{ℕ};
 ghost use lib.ListN.{length};
@@ -60,6 +60,7 @@ impl Tables<'_> {
         }
     }
 
+    /// The same, of an assignment that is not refused.
     fn broken_by(&self, assignment: &[u8]) -> SoftSet
         requires { ⌜ Valid (now self) ⌝ }
         ensures { λ r. ⌜ ((k : ℕ) → member (mask r) k ≡ breaks (now (assignment .entry)) (meaning-of (now (self .entry)) .softs) k) ⌝ }

@@ -1,4 +1,4 @@
-//! The two lent tables and how far they are filled. `ClauseTables` keeps what holds of them.
+//! The two lent tables and how far they are filled. The finders on them keep what holds of them.
 ghost use mathlib.Core.Path.{_≡_};
 ghost use mathlib.Core.Bool.{true};
 ghost use mathlib.Core.List.{_++_};
@@ -12,6 +12,7 @@ use crate::records::Clause;
 use crate::records::ClauseKind;
 use crate::records::ClauseRecord;
 
+/// The records of the clauses, and their literals one clause after another, each in a slice that the caller lends.
 #[derive(Drop)]
 pub struct Tables<'a> {
     pub(crate) records: &'a mut [ClauseRecord],
@@ -113,6 +114,7 @@ fn softs_with(softs: usize, kind: ClauseKind) -> usize
     }
 }
 
+/// Writes the part over what stands from `at` on.
 fn copy_at(whole: &mut [i32], at: usize, part: &[i32])
     requires { ⌜ at + length (now part) ≤ length (now whole) ⌝ }
     ensures { λ _. ⌜ now (whole .exit) ≡ take at (now (whole .entry)) ++ (now (part .entry) ++ drop (at + length (now (part .entry))) (now (whole .entry))) ⌝ }
