@@ -17,7 +17,7 @@ use Rattle.finders.specs.Questions.{Model, Core}
 use Rattle.finders.specs.declared.finder.Answer.{Answer}
 use Rattle.finders.specs.declared.finder.Answer.the-variants.{Model as Found, Core as Conflict}
 
--- the set with one number left out
+-- the set with one number left out; masks have no limit of width, so there is one such set for each number
 abbrev pub Without : ℕ → ℕ → ℕ → Type 0
 Without set k rest = (j : ℕ) → member rest j ≡ (member set j && not (eqb k j))
 

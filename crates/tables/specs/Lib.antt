@@ -1,3 +1,4 @@
+pub mod Room
 pub mod Entries
 pub mod Tabled
 pub mod Trying

@@ -1,6 +1,6 @@
 -- What the tables hold, what holds of them, and what they mean.
 use mathlib.Core.Path.{_≡_}
-use mathlib.Core.Bool.{Bool, true, false, cond}
+use mathlib.Core.Bool.{Bool, true, false}
 use mathlib.Core.List.{List, [], _∷_, map}
 use Prim.Native.Nat.{ℕ, _+_, _-_, _≤_, _<_, min}
 use denote.Ref.{now}
@@ -13,8 +13,9 @@ use Rattle.terms.specs.declared.refusals.Part.the-variants.{Finder}
 use Rattle.terms.specs.declared.refusals.Refusal.{Refusal}
 use Rattle.terms.specs.declared.refusals.Refusal.the-variants.{ClauseTooLong, BadLiteral, NoSoftPlace, NoClausePlace}
 use Rattle.finders.specs.Meanings.{FinderMeaning, Limited, fresh, with-hard, with-soft}
-use Rattle.finders.specs.Refused.{too-many, too-long, has-bad, no-soft-place, no-place}
+use Rattle.finders.specs.Refused.{too-long, has-bad, no-soft-place, no-place}
 use Rattle.tables.specs.Entries.{Entry, entry, hards, softs, satisfied-all, numbered, blank}
+use Rattle.tables.specs.declared.making.Room.{Room}
 use Rattle.tables.specs.declared.records.ClauseKind.{ClauseKind}
 use Rattle.tables.specs.declared.records.ClauseKind.the-variants.{Hard, Soft}
 use Rattle.tables.specs.declared.tables.Tables.{Tables}
@@ -56,9 +57,9 @@ pub record Valid (t : Tables) : Type 0 where
   pub proper : Proper t
   pub numbered : Numbered t
 
--- ---- what is made on tables of so many records and literals, for a finder that takes so many variables
-abbrev pub made-for : ℕ → ℕ → ℕ → ℕ → FinderMeaning
-made-for most n records literals = cond (too-many most n) (fresh 0 0 0 0) (fresh n 64 (min records 32768) (min literals 32768))
+-- ---- what is made on tables of so many records and literals, in this room
+abbrev pub made-in : Room → ℕ → ℕ → FinderMeaning
+made-in r records literals = fresh (r .variables) (r .softs) (min records (r .places)) (min literals (r .places))
 
 -- ---- adding a clause of either kind
 abbrev pub lacks-soft-place : ClauseKind → FinderMeaning → Bool

@@ -3,7 +3,8 @@ ghost use mathlib.Core.Path.{_≡_};
 ghost use lib.ListN.{length};
 ghost use Rattle.terms.specs.Refusals.{told};
 ghost use Rattle.finders.specs.Refused.{variables-refused};
-ghost use Rattle.tables.specs.Tabled.{meaning-of, made-for};
+ghost use Rattle.tables.specs.Tabled.{meaning-of, made-in};
+ghost use Rattle.tables.specs.Room.{room};
 use crate::count_through::CountThrough;
 use crate::making::check_variables;
 use crate::records::ClauseKind;
@@ -25,9 +26,9 @@ impl<'a> CountThrough<'a> {
     /// A finder that admits every assignment. The lengths of the tables are its places.
     /// With more than 16 variables it has no variables and no places.
     pub fn new(records: &'a mut [ClauseRecord], literals: &'a mut [i32], n: usize) -> Self
-        ensures { λ r. ⌜ meaning-of (r .tables) ≡ made-for 16 n (length (now (records .entry))) (length (now (literals .entry))) ⌝ }
+        ensures { λ r. ⌜ meaning-of (r .tables) ≡ made-in (room 16 n) (length (now (records .entry))) (length (now (literals .entry))) ⌝ }
     {
-        let tables = Tables::made_for(records, literals, n, 16);
+        let tables = Tables::new(records, literals, n, 16);
         CountThrough { tables }
     }
 }

@@ -1,13 +1,17 @@
-//! Making clause tables, and the check whether a finder takes so many variables.
+//! Whether a finder takes so many variables, and what it then has room for.
 ghost use mathlib.Core.Path.{_≡_};
-ghost use Prim.Native.Nat.{_≤_};
-ghost use lib.ListN.{length};
 ghost use Rattle.terms.specs.Refusals.{told};
 ghost use Rattle.finders.specs.Refused.{variables-refused};
-ghost use Rattle.tables.specs.Tabled.{Valid, meaning-of, made-for};
-use crate::records::ClauseRecord;
-use crate::tables::Tables;
+ghost use Rattle.tables.specs.Room.{room};
 use terms::Refusal;
+
+/// How many variables a finder has, how many soft clauses it takes, and how long its tables can be.
+#[derive(Clone, Copy)]
+pub struct Room {
+    pub(crate) variables: usize,
+    pub(crate) softs: usize,
+    pub(crate) places: usize,
+}
 
 /// Refuses more variables than `most`.
 pub(crate) fn check_variables(n: usize, most: usize) -> Result<(), Refusal>
@@ -19,22 +23,20 @@ pub(crate) fn check_variables(n: usize, most: usize) -> Result<(), Refusal>
     Ok(())
 }
 
-impl<'a> Tables<'a> {
-    /// Tables without a clause, for a finder that takes up to `most` variables.
-    /// With more than that there are no variables and no places.
-    pub(crate) fn made_for(
-        records: &'a mut [ClauseRecord],
-        literals: &'a mut [i32],
-        n: usize,
-        most: usize,
-    ) -> Self
-        requires { ⌜ most ≤ 256 ⌝ }
-        ensures valid { λ r. ⌜ Valid r ⌝ }
-        ensures means { λ r. ⌜ meaning-of r ≡ made-for most n (length (now (records .entry))) (length (now (literals .entry))) ⌝ }
-    {
-        match check_variables(n, most) {
-            Ok(()) => Tables::new(records, literals, n, 64, 32768),
-            Err(_) => Tables::new(records, literals, 0, 0, 0),
-        }
+/// The room of a finder that takes up to `most` variables: with more than that it has none.
+pub(crate) fn room_for(n: usize, most: usize) -> Room
+    ensures { λ r. ⌜ r ≡ room most n ⌝ }
+{
+    match check_variables(n, most) {
+        Ok(()) => Room {
+            variables: n,
+            softs: 64,
+            places: 32768,
+        },
+        Err(_) => Room {
+            variables: 0,
+            softs: 0,
+            places: 0,
+        },
     }
 }

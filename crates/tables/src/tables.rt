@@ -5,9 +5,10 @@ ghost use mathlib.Core.List.{_++_};
 ghost use Prim.Native.Nat.{_+_, _<_, _≤_, min};
 ghost use lib.ListN.{length, getD, take, drop};
 ghost use Rattle.std.specs.declared.option.Option.the-variants.{None};
-ghost use Rattle.finders.specs.Meanings.{fresh};
 ghost use Rattle.tables.specs.Entries.{as-entry, no-entry, softs-after, well-numbered};
-ghost use Rattle.tables.specs.Tabled.{Valid, held, meaning-of, refused-as, with-clause};
+ghost use Rattle.tables.specs.Tabled.{Valid, held, meaning-of, made-in, refused-as, with-clause};
+ghost use Rattle.tables.specs.Room.{room};
+use crate::making::room_for;
 use crate::records::Clause;
 use crate::records::ClauseKind;
 use crate::records::ClauseRecord;
@@ -28,28 +29,29 @@ pub struct Tables<'a> {
 }
 
 impl<'a> Tables<'a> {
-    /// Tables without a clause. No more than `most` places of either table are used.
+    /// Tables without a clause, for a finder that takes up to `most` variables.
+    /// With more than that there are no variables and no places.
     pub(crate) fn new(
         records: &'a mut [ClauseRecord],
         literals: &'a mut [i32],
         n: usize,
-        limit: usize,
         most: usize,
     ) -> Self
-        requires few { ⌜ (n ≤ 256) × (limit ≤ 64) × (most ≤ 32768) ⌝ }
+        requires { ⌜ most ≤ 256 ⌝ }
         ensures valid { λ r. ⌜ Valid r ⌝ }
-        ensures means { λ r. ⌜ meaning-of r ≡ fresh n limit (min (length (now (records .entry))) most) (min (length (now (literals .entry))) most) ⌝ }
+        ensures means { λ r. ⌜ meaning-of r ≡ made-in (room most n) (length (now (records .entry))) (length (now (literals .entry))) ⌝ }
     {
-        let clause_places = smaller(records.len(), most);
-        let literal_places = smaller(literals.len(), most);
+        let room = room_for(n, most);
+        let clause_places = smaller(records.len(), room.places);
+        let literal_places = smaller(literals.len(), room.places);
         Tables {
             records: &mut records[..clause_places],
             literals: &mut literals[..literal_places],
             used: 0,
             filled: 0,
             softs: 0,
-            limit,
-            n,
+            limit: room.softs,
+            n: room.variables,
         }
     }
 
