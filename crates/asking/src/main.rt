@@ -1,4 +1,6 @@
 //! Asks a finder, and the shrinking layer over it, which wishes for a pump skid can be had together.
+#![tactic(auto)]
+
 use finders::{Answer, Finder};
 use shrinking::Shrinking;
 use std::io;

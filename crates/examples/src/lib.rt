@@ -1,4 +1,6 @@
 //! The worked examples, proved as one list.
+#![tactic(auto)]
+
 ghost use Rattle.std.specs.Prelude.{◌≡◌};
 ghost use Rattle.examples.specs.Examples.{examples, AllHold, how_many};
 

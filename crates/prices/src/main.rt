@@ -1,4 +1,6 @@
 //! Prices plans against soft clauses of both weight kinds, and says of each plan what it breaks and what that costs.
+#![tactic(auto)]
+
 ghost use Rattle.std.specs.Prelude.{◌≡◌};
 
 use pricing::{Price, Unpriced, price_plan};

@@ -1,4 +1,6 @@
 //! What a plan breaks of a list of soft clauses, and what it pays for that.
+#![tactic(auto)]
+
 ghost use Rattle.std.specs.Prelude.{◌≡◌, ℕ, ◌&&◌, None};
 ghost use Rattle.terms.specs.Clauses.{breaks};
 ghost use Rattle.terms.specs.Masks.{member};

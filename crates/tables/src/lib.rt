@@ -1,4 +1,6 @@
 //! Clause tables in memory that the caller lends, and the finders that keep their clauses in them.
+#![tactic(auto)]
+
 mod adding;
 mod count_through;
 mod counting;

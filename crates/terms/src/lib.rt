@@ -1,4 +1,6 @@
 //! The words of the product: refusals, literals, clauses, assignments, and sets of soft numbers.
+#![tactic(auto)]
+
 mod clauses;
 mod refusals;
 mod soft_sets;

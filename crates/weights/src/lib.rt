@@ -1,4 +1,6 @@
 //! Weight kinds, and the cost of a set of soft numbers.
+#![tactic(auto)]
+
 mod costs;
 mod kinds;
 mod levels;

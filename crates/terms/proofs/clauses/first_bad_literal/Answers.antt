@@ -16,7 +16,7 @@ pub loop-place-preserved : goal.loop-place-preserved
 loop-place-preserved c =
     let i = c.loop-place.place in
     let fits : SFits w32 (get_or c.args.clause.now i (pos 0)) = search rules in
-    let here : false ≡ bad_literal c.args.n (get_or c.args.clause.now i (pos 0)) = simp to_z-of_z at c.if-is-bad.ensures in
+    let here : false ≡ bad_literal c.args.n (get_or c.args.clause.now i (pos 0)) = simp to_z-of_z at c.if-is_bad.ensures in
     below_more _ _ c.loop-place.invariant (sym here)
 
 pub returns : goal.returns

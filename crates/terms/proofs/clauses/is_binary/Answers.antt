@@ -14,7 +14,7 @@ returns-then-is-neither c =
     record { value = same_from_decides false (binary a) means (binary_means a); means = means }
 
 pub loop-byte-preserved : goal.loop-byte-preserved
-loop-byte-preserved c = below_more _ _ c.loop-byte.invariant (leb-false 2 _ (sym c.if-is-neither.ensures))
+loop-byte-preserved c = below_more _ _ c.loop-byte.invariant (leb-false 2 _ (sym c.if-is_neither.ensures))
 
 pub returns : goal.returns
 returns c =

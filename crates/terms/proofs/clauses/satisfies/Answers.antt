@@ -17,7 +17,7 @@ pub loop-literal-preserved : goal.loop-literal-preserved
 loop-literal-preserved c =
     let i = c.loop-literal.literal-index in
     let fits : SFits w32 (get_or c.args.clause.now i (pos 0)) = search rules in
-    next_literal c.args.assignment.now c.args.clause.now i false c.loop-literal-test.true (simp to_z-of_z at c.if-is-true.ensures) c.loop-literal.invariant
+    next_literal c.args.assignment.now c.args.clause.now i false c.loop-literal-test.true (simp to_z-of_z at c.if-is_true.ensures) c.loop-literal.invariant
 
 pub returns : goal.returns
 returns c =
