@@ -13,10 +13,10 @@ returns g c fine =
     let cs = clauses_of c.args.clauses.now in
     let l = length-clauses_of c.args.clauses.now in
     let few = priced_few c.args.clauses.now c.args.weights.now fine in
-    let all = λ (k : ℕ). c.broken-by-broken.ensures k ∙ all_fit c.args.plan.now cs k (omega arith) in
+    let all = λ (k : ℕ). c.broken_by-broken.ensures k ∙ all_fit c.args.plan.now cs k (omega arith) in
     record {
       broken = all;
-      total = subst (λ v. Totals K v c.cost-of.result)
-          (broken_charge K g.met.W.WeightKind.laws c.args.weights.now cs c.args.plan.now (mask c.broken-by-broken.result) (omega arith) all)
-          c.cost-of.ensures;
+      total = subst (λ v. Totals K v c.cost_of.result)
+          (broken_charge K g.met.W.WeightKind.laws c.args.weights.now cs c.args.plan.now (mask c.broken_by-broken.result) (omega arith) all)
+          c.cost_of.ensures;
     }

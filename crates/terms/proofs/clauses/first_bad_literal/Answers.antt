@@ -4,11 +4,11 @@ use Rattle.terms.specs.Clauses.{bad_literal, FirstBad}
 use Rattle.terms.proofs.ClauseLaws.{first_bad_is}
 use Rattle.terms.proofs.clauses.first_bad_literal.Goals as goal
 
-pub returns-then-is-bad : goal.returns-then-is-bad
-returns-then-is-bad c =
+pub returns-then-is_bad : goal.returns-then-is_bad
+returns-then-is_bad c =
     let i = c.loop-place.place in
     let fits : SFits w32 (get_or c.args.clause.now i (pos 0)) = search rules in
-    let here : true ≡ bad_literal c.args.n (get_or c.args.clause.now i (pos 0)) = simp to_z-of_z at c.if-is-bad.ensures in
+    let here : true ≡ bad_literal c.args.n (get_or c.args.clause.now i (pos 0)) = simp to_z-of_z at c.if-is_bad.ensures in
     let means : FirstBad c.args.n c.args.clause.now (Some i) = (c.loop-place-test.true, sym here, c.loop-place.invariant) in
     record { value = first_bad_is c.args.n c.args.clause.now (Some i) means; means = means }
 

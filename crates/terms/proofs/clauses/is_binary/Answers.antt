@@ -5,11 +5,11 @@ use Rattle.terms.specs.Clauses.{Binary, binary}
 use Rattle.terms.proofs.ClauseLaws.{binary_means}
 use Rattle.terms.proofs.clauses.is_binary.Goals as goal
 
-pub returns-then-is-neither : goal.returns-then-is-neither
-returns-then-is-neither c =
+pub returns-then-is_neither : goal.returns-then-is_neither
+returns-then-is_neither c =
     let a = c.args.bytes.now in
     let i = c.loop-byte.byte-index in
-    let two = leb-true 2 _ (sym c.if-is-neither.ensures) in
+    let two = leb-true 2 _ (sym c.if-is_neither.ensures) in
     let means : Decides false (Binary a) = ((λ e. absurd (both_ways false refl e)), λ h. absurd (omega (arith, h i c.loop-byte-test.true))) in
     record { value = same_from_decides false (binary a) means (binary_means a); means = means }
 

@@ -3,8 +3,8 @@ use Rattle.std.proofs.lemmas.Nat.{ones-le}
 use Rattle.terms.proofs.MaskLaws.{size-ones}
 use Rattle.terms.proofs.words.count.Goals as goal
 
-pub overflow-cast-result : goal.overflow-cast-result
-overflow-cast-result c = omega (arith, ones-le 64 c.args.word (omega arith))
+pub overflow_cast-result : goal.overflow_cast-result
+overflow_cast-result c = omega (arith, ones-le 64 c.args.word (omega arith))
 
 pub returns : goal.returns
 returns c = size-ones 64 c.args.word (omega arith)

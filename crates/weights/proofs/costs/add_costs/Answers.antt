@@ -3,15 +3,15 @@ use Rattle.terms.specs.Masks.{member}
 use Rattle.terms.specs.Sets.{mask}
 use Rattle.weights.proofs.CostLaws.{takes, passes, too_much, all_taken}
 use Rattle.weights.proofs.costs.add_costs.Goals as goal
-use Rattle.weights.proofs.costs.add_costs.Goals.{then-has+in-ok-total, else-has}
+use Rattle.weights.proofs.costs.add_costs.Goals.{then-has+in_ok-total, else-has}
 
-pub returns-in-err-total : goal.returns-in-err-total
-returns-in-err-total g c h =
+pub returns-in_err-total : goal.returns-in_err-total
+returns-in_err-total g c h =
     let K = g.W.WeightKind.kind in
-    rw c.from-residual.ensures
+    rw c.from_residual.ensures
     (too_much K g.met.W.WeightKind.laws c.args.weights.now (member (mask c.args.set)) c.loop-number.number c.index-weights-number.result
     (K.value c.loop-number.total) _ c.loop-number-test.true c.index-weights-number.is c.if-has.ensures
-    c.in-err-total.ensures (c.loop-number.invariant h).1)
+    c.in_err-total.ensures (c.loop-number.invariant h).1)
 
 pub loop-number-preserved : goal.loop-number-preserved
 loop-number-preserved g c h =
@@ -21,11 +21,11 @@ loop-number-preserved g c h =
     let p = member (mask c.args.set) in
     let a = K.value c.loop-number.total in
     elim c.if-has.branch [
-      | then-has+in-ok-total w ↦
+      | then-has+in_ok-total w ↦
           rw w.total-is (
-            ap K.holds w.in-ok-total.ensures.1 ∙ w.in-ok-total.ensures.0,
+            ap K.holds w.in_ok-total.ensures.1 ∙ w.in_ok-total.ensures.0,
             takes K laws ws p c.loop-number.number c.index-weights-number.result a _ _ c.loop-number-test.true c.index-weights-number.is
-                w.if-has.ensures w.in-ok-total.ensures.1 (c.loop-number.invariant h).1,
+                w.if-has.ensures w.in_ok-total.ensures.1 (c.loop-number.invariant h).1,
           )
       | else-has w ↦
           rw w.total-is (

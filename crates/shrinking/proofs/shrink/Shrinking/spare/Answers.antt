@@ -5,8 +5,8 @@ use Rattle.terms.specs.Sets.{mask}
 use Rattle.shrinking.proofs.Sparing.{fewer}
 use Rattle.shrinking.proofs.shrink.Shrinking.spare.Goals as goal
 
-pub core-within-requires : goal.core-within-requires
-core-within-requires g c κs k h = c.requires.given k (and_parts (member (mask c.args.core) k) (not (eqb c.args.number k)) (sym (c.remove.ensures k) ∙ h)).0
+pub core_within-requires : goal.core_within-requires
+core_within-requires g c κs k h = c.requires.given k (and_parts (member (mask c.args.core) k) (not (eqb c.args.number k)) (sym (c.remove.ensures k) ∙ h)).0
 
 pub returns-then-not-has : goal.returns-then-not-has
 returns-then-not-has g c = record {

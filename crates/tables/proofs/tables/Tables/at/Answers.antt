@@ -8,16 +8,16 @@ use Rattle.tables.proofs.tables.Tables.at.Goals as goal
 in_use : (t : Tables) → Valid t → {k : ℕ} → k < length (held t) → k < t.used
 in_use t v l = omega (arith, held_count t.literals.now t.records.now t.used v.roomy.0)
 
-pub offset-bounds-self-k : goal.offset-bounds-self-k
-offset-bounds-self-k c = let l = in_use c.args.self.now c.requires.valid c.requires.within in
+pub offset_bounds-self-k : goal.offset_bounds-self-k
+offset_bounds-self-k c = let l = in_use c.args.self.now c.requires.valid c.requires.within in
     let i : c.args.k < length c.args.self.now.records.now = omega arith in
     search rules
 
 pub bounds-self-k : goal.bounds-self-k
 bounds-self-k c = let l = in_use c.args.self.now c.requires.valid c.requires.within in omega arith
 
-pub slice-bounds-result-end : goal.slice-bounds-result-end
-slice-bounds-result-end c = let l = c.requires.valid.inside c.args.k (in_use c.args.self.now c.requires.valid c.requires.within) in omega arith
+pub slice_bounds-result-end : goal.slice_bounds-result-end
+slice_bounds-result-end c = let l = c.requires.valid.inside c.args.k (in_use c.args.self.now c.requires.valid c.requires.within) in omega arith
 
 pub returns : goal.returns
 returns c =

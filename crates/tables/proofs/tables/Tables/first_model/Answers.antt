@@ -10,13 +10,13 @@ use Rattle.tables.proofs.tables.Tables.first_model.Goals as goal
 all_turns : (n e : ℕ) → n ≤ 16 → e ≡ 1 * 2 ^ n % 4294967296 → e ≡ 2 ^ n
 all_turns n e h is = let low = pow_mono {i = n} {j = 16} h in omega arith
 
-pub returns-then-is-model : goal.returns-then-is-model
-returns-then-is-model c =
-    let m = c.if-is-model.ensures.0 refl in
+pub returns-then-is_model : goal.returns-then-is_model
+returns-then-is_model c =
+    let m = c.if-is_model.ensures.0 refl in
     record { assigns = digits_assign c.args.self.now.n c.loop-number.number; admitted = m.0; meets = m.1 }
 
 pub loop-number-preserved : goal.loop-number-preserved
-loop-number-preserved c = below_more _ _ c.loop-number.invariant (λ m. both_ways _ c.if-is-model.false (c.is-model.ensures.1 m))
+loop-number-preserved c = below_more _ _ c.loop-number.invariant (λ m. both_ways _ c.if-is_model.false (c.is_model.ensures.1 m))
 
 pub returns : goal.returns
 returns c a m =

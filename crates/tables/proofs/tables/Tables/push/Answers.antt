@@ -20,17 +20,17 @@ returns c =
     let xs = c.args.clause.now in
     let k = c.args.kind in
     let a = accepted k (meaning_of t) xs c.requires.fine in
-    let e = c.copy-at.ensures in
+    let e = c.copy_at.ensures in
     let fit : t.filled + length xs ≤ length t.literals.now = omega arith in
     let low : t.filled ≤ length t.literals.now = omega arith in
     let free : t.used < length t.records.now = omega arith in
     let long = ap length e ∙ pasted_length t.literals.now t.filled xs fit in
     let one : Entry = record { kind = k; clause = xs } in
-    let hs = held_push t.records.now t.used t.literals.now t.filled xs k low free v.inside c.copy-at.new.whole e in
+    let hs = held_push t.records.now t.used t.literals.now t.filled xs k low free v.inside c.copy_at.new.whole e in
     let count = counted k t.softs t.limit a.soft_place v.numbered.2 in
-    let softs_are = c.softs-with-self.ensures in
+    let softs_are = c.softs_with-self.ensures in
     let more = ap (λ es. length (softs es)) hs ∙ softs_push (held t) one ∙ ap (λ s. softs_after s k) v.numbered.1 ∙ sym softs_are in
-    let within : c.softs-with-self.result ≤ t.limit = subst (λ s. s ≤ t.limit) (sym softs_are) count.1 in
+    let within : c.softs_with-self.result ≤ t.limit = subst (λ s. s ≤ t.limit) (sym softs_are) count.1 in
     record {
       valid = record {
         limited = (v.limited.0, omega (arith, more, within, v.limited.1, v.numbered.1, v.numbered.2));

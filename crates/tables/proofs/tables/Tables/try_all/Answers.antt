@@ -8,8 +8,8 @@ use Rattle.tables.specs.Trying.{digits}
 use Rattle.tables.proofs.Digits.{digits_assign}
 use Rattle.tables.proofs.tables.Tables.try_all.Goals as goal
 
-pub write-front-requires : goal.write-front-requires
-write-front-requires c = (asked_well (meaning_of c.args.self.now) (mask c.args.set) c.args.buffer.now c.requires.fine).0
+pub write_front-requires : goal.write_front-requires
+write_front-requires c = (asked_well (meaning_of c.args.self.now) (mask c.args.set) c.args.buffer.now c.requires.fine).0
 
 pub returns-in-Some : goal.returns-in-Some
 returns-in-Some c =
@@ -17,9 +17,9 @@ returns-in-Some c =
     let number = c.in-Some.number in
     let rest = drop t.n c.args.buffer.now in
     let long = (digits_assign t.n number).0 in
-    let front = ap (take t.n) c.write-front.ensures ∙ take_at (digits t.n number) rest t.n long in (
+    let front = ap (take t.n) c.write_front.ensures ∙ take_at (digits t.n number) rest t.n long in (
       subst (Model (meaning_of t) (mask c.args.set)) (sym front) c.in-Some.ensures,
-      ap (drop t.n) c.write-front.ensures ∙ drop_at (digits t.n number) rest t.n long,
+      ap (drop t.n) c.write_front.ensures ∙ drop_at (digits t.n number) rest t.n long,
     )
 
 pub returns-in-None : goal.returns-in-None
