@@ -67,13 +67,13 @@ fn show_added(
     rt: &HostRuntime,
     name: &str,
     clause: &[i32],
-    res: Result<(), Refusal>,
+    outcome: Result<(), Refusal>,
 ) -> io::Result<()> {
     print!(rt; "  {name}")?;
     for literal in clause {
         print!(rt; " {literal}")?;
     }
-    match res {
+    match outcome {
         Ok(()) => println!(rt; " is added."),
         Err(refusal) => println!(rt; " is refused with {}.", refusal.number()),
     }

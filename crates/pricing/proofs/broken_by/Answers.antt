@@ -15,10 +15,10 @@ loop-number-preserved c k =
     let here = breaks_at a c.args.clauses.now i _ c.satisfies.result c.loop-number-test.true c.satisfies.ensures.value in
     elim c.if-not-satisfies.branch [
       | then-not-satisfies w ↦
-          ap (λ s. member (mask s) k) w.broken_is ∙ w.insert-broken.ensures k ∙ ap (λ b. b || (eqb i k && fits k)) (c.loop-number.invariant k)
+          ap (λ s. member (mask s) k) w.broken-is ∙ w.insert-broken.ensures k ∙ ap (λ b. b || (eqb i k && fits k)) (c.loop-number.invariant k)
           ∙ also_broken i k (breaks a cs k) (fits k) (λ e. ap (breaks a cs) (sym e) ∙ here ∙ ap not w.if-not-satisfies.true)
       | else-not-satisfies w ↦
-          ap (λ s. member (mask s) k) w.broken_is ∙ c.loop-number.invariant k
+          ap (λ s. member (mask s) k) w.broken-is ∙ c.loop-number.invariant k
           ∙ not_broken i k (breaks a cs k) (fits k) (λ e. ap (breaks a cs) (sym e) ∙ here ∙ ap not w.if-not-satisfies.false)
     ]
 

@@ -6,7 +6,7 @@ use Rattle.shrinking.proofs.Sparing.{fewer}
 use Rattle.shrinking.proofs.shrink.Shrinking.spare.Goals as goal
 
 pub core_within-requires : goal.core_within-requires
-core_within-requires g c κs k h = c.requires.given k (and_parts (member (mask c.args.core) k) (not (eqb c.args.number k)) (sym (c.remove.ensures k) ∙ h)).0
+core_within-requires g c k h = c.requires.given k (and_parts (member (mask c.args.core) k) (not (eqb c.args.number k)) (sym (c.remove.ensures k) ∙ h)).0
 
 pub returns-then-not-has : goal.returns-then-not-has
 returns-then-not-has g c = record {

@@ -25,13 +25,13 @@ loop-k-preserved c j =
     let further : (m' : Bool) → m' ≡ (m || (q && fits j)) → (m' || (rest && fits j)) ≡ (broken_in es a j && fits j) =
     λ (m' : Bool) e. next_broken m m' q rest (fits j) (broken_in es a j && fits j) e (ap (λ x. m || (x && fits j)) (sym here) ∙ c.loop-k.invariant j) in
     further _ (elim c.match-clause.branch [
-      | in-Hard w ↦ ap (λ s. member (mask s) j) w.broken_is ∙ not_broken m q (fits j) (ap (λ k. broken_as a j k clause.literals.now) w.in-Hard.is)
+      | in-Hard w ↦ ap (λ s. member (mask s) j) w.broken-is ∙ not_broken m q (fits j) (ap (λ k. broken_as a j k clause.literals.now) w.in-Hard.is)
       | in-Soft+then-not-satisfies w ↦
-          ap (λ s. member (mask s) j) w.broken_is ∙ w.insert-broken.ensures j
+          ap (λ s. member (mask s) j) w.broken-is ∙ w.insert-broken.ensures j
           ∙ ap (λ x. m || (x && fits j))
           (sym (soft_broken a j w.in-Soft.number clause.kind clause.literals.now false w.in-Soft.is w.if-not-satisfies.ensures.value ∙ and-true (eqb w.in-Soft.number j)))
       | in-Soft+else-not-satisfies w ↦
-          ap (λ s. member (mask s) j) w.broken_is
+          ap (λ s. member (mask s) j) w.broken-is
           ∙ not_broken m q (fits j)
           (soft_broken a j w.in-Soft.number clause.kind clause.literals.now true w.in-Soft.is w.if-not-satisfies.ensures.value ∙ and_right (eqb w.in-Soft.number j) false refl)
     ])
