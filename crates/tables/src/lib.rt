@@ -11,7 +11,6 @@ mod tables;
 mod trying;
 
 pub use count_through::CountThrough;
-use finders::Finder;
 pub use records::ClauseRecord;
 
 #[cfg(test)]
