@@ -1,3 +1,4 @@
 pub mod ClauseLaws
 pub mod MaskLaws
 pub mod RefusalLaws
+pub mod WordLaws

@@ -1,11 +1,10 @@
 -- Literals, clauses and assignments.
-use Rattle.std.specs.Prelude.{◌≡◌, ℕ, zero, suc, ◌<◌, Bool, true, false, cond, not, ◌&&◌, ◌||◌, List, [], ◌∷◌, length, ℤ, pos, negsuc, Some, None, Option, ◌==◌, nat_lt, slice_index, slice_index_or}
-use Rattle.std.specs.Option.{option_map}
+use Rattle.std.specs.Prelude.{◌≡◌, ℕ, zero, suc, ◌<◌, Bool, true, false, not, ◌&&◌, ◌||◌, List, [], length, ℤ, pos, negsuc, Some, None, Option, ◌==◌, nat_lt, slice_index, slice_index_or, position}
+use Rattle.std.specs.List.{list_all, list_any}
 
 -- each byte is 0 or 1
 abbrev pub binary : List ℕ → Bool
-binary [] = true
-binary (b ∷ a) = nat_lt b 2 && binary a
+binary a = list_all (λ b. nat_lt b 2) a
 
 -- the same told by places
 abbrev pub Binary : List ℕ → Type 0
@@ -24,8 +23,7 @@ true_in a (negsuc k) = slice_index_or a k 1 == 0
 
 -- at least one literal is true
 abbrev pub satisfied_by : List ℕ → List ℤ → Bool
-satisfied_by a [] = false
-satisfied_by a (l ∷ c) = true_in a l || satisfied_by a c
+satisfied_by a c = list_any (true_in a) c
 
 -- the same told by places: the literal at some place is true
 abbrev pub Satisfied : List ℕ → List ℤ → Type 0
@@ -45,8 +43,7 @@ bad_literal n l = variable l == 0 || nat_lt n (variable l)
 
 -- the place of the first bad literal of a clause
 abbrev pub first_bad : ℕ → List ℤ → Option ℕ
-first_bad n [] = None
-first_bad n (l ∷ c) = cond (bad_literal n l) (Some 0) (option_map suc (first_bad n c))
+first_bad n c = position (bad_literal n) c
 
 -- the same told by places: no literal is bad, or the one at a place is and none before it
 abbrev pub FirstBad : ℕ → List ℤ → Option ℕ → Type 0

@@ -1,38 +1,21 @@
 //! Literals are `i32`, clauses `&[i32]`, assignments byte slices with variable v at place v - 1.
-ghost use Rattle.std.specs.Prelude.{◌≡◌, pos, if◌then◌else◌, Decides, int_lt, nat_le};
+ghost use Rattle.std.specs.Prelude.{◌≡◌, pos, if◌then◌else◌, ◌↔◌, IsTrue, int_lt};
 ghost use Rattle.terms.specs.Clauses.{binary, Binary, true_in, satisfied_by, Satisfied, bad_literal, first_bad, FirstBad};
 
 /// Whether each byte is 0 or 1, as in an assignment.
 pub fn is_binary(bytes: &[u8]) -> bool
     ensures value { result ≡ binary bytes.now }
-    ensures means { Decides result (Binary bytes.now) }
+    ensures means { IsTrue result ↔ Binary bytes.now }
 {
-    for byte in bytes {
-        if is_neither(*byte) {
-            return false;
-        }
-    }
-    true
-}
-
-/// Whether a byte is neither 0 nor 1.
-fn is_neither(byte: u8) -> bool
-    ensures { result ≡ nat_le 2 byte }
-{
-    byte > 1
+    bytes.iter().all(|byte| *byte < 2)
 }
 
 /// Whether at least one literal of the clause is true.
 pub fn satisfies(assignment: &[u8], clause: &[i32]) -> bool
     ensures value { result ≡ satisfied_by assignment.now clause.now }
-    ensures means { Decides result (Satisfied assignment.now clause.now) }
+    ensures means { IsTrue result ↔ Satisfied assignment.now clause.now }
 {
-    for literal in clause {
-        if is_true(assignment, *literal) {
-            return true;
-        }
-    }
-    false
+    clause.iter().any(|literal| is_true(assignment, *literal))
 }
 
 /// Whether a literal is true. The literal 0 is not, and neither is one of a variable that the assignment lacks.
@@ -50,7 +33,7 @@ fn is_true(assignment: &[u8], literal: i32) -> bool
 fn wanted(literal: i32) -> u8
     ensures { result ≡ (if int_lt (pos 0) literal then 1 else 0) }
 {
-    if literal > 0 { 1 } else { 0 }
+    u8::from(literal > 0)
 }
 
 /// The place of the first literal that is 0 or belongs to a variable above `n`.
@@ -58,12 +41,7 @@ pub fn first_bad_literal(clause: &[i32], n: usize) -> Option<usize>
     ensures value { result ≡ first_bad n clause.now }
     ensures means { FirstBad n clause.now result }
 {
-    for (place, literal) in clause.iter().enumerate() {
-        if is_bad(*literal, n) {
-            return Some(place);
-        }
-    }
-    None
+    clause.iter().position(|literal| is_bad(*literal, n))
 }
 
 /// Whether a literal is 0 or belongs to a variable above `n`.

@@ -4,7 +4,6 @@
 mod clauses;
 mod refusals;
 mod soft_sets;
-mod words;
 
 pub use clauses::{first_bad_literal, is_binary, satisfies};
 pub use refusals::{Layer, Part, Refusal};

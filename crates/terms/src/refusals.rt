@@ -9,13 +9,13 @@ pub enum Part {
     CoverMaker,
 }
 
-/// The layer of the product that a refusal on a line of a session comes from.
+/// The layer of the product that a refusal on a line of a session comes from, with its letter.
 #[derive(Clone, Copy, PartialEq, Eq, Debug)]
 pub enum Layer {
-    Text,
-    Job,
-    Finder,
-    CoverMaker,
+    Text = b't' as isize,
+    Job = b'j' as isize,
+    Finder = b'f' as isize,
+    CoverMaker = b'c' as isize,
 }
 
 impl Layer {
@@ -23,12 +23,7 @@ impl Layer {
     pub fn letter(self) -> char
         ensures { result ≡ letter_of self }
     {
-        match self {
-            Layer::Text => 't',
-            Layer::Job => 'j',
-            Layer::Finder => 'f',
-            Layer::CoverMaker => 'c',
-        }
+        char::from(self as u8)
     }
 }
 

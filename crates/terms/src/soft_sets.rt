@@ -1,109 +1,128 @@
-//! Sets of soft numbers. A set means a mask, and nothing outside this module knows how it is held.
-ghost use Rattle.std.specs.Prelude.{◌≡◌, ℕ, ◌-◌, ◌^◌, min, false, not, ◌&&◌, ◌||◌, Decides, ◌==◌, nat_lt};
-ghost use Rattle.terms.specs.Masks.{member, Subset, Intersect, Below, subset, intersect, below, size};
-ghost use Rattle.terms.specs.Sets.{mask, capacity, fits};
+//! Sets of soft numbers. A set means its mask, the number whose binary digits are one at the members.
+#![tactic(auto, using(crate::proofs::WordLaws::word_laws), unfolding(crate::specs::Masks::member, crate::specs::Masks::subset, crate::specs::Masks::intersect))]
 
-use crate::words;
+ghost use Rattle.std.specs.Prelude.{◌≡◌, ◌↔◌, ℕ, ◌-◌, ◌^◌, min, false, not, ◌&&◌, ◌||◌, IsTrue, ◌==◌, nat_lt};
+ghost use Rattle.terms.specs.Masks.{member, Subset, Intersect, Below, subset, intersect, below, size};
+ghost use Rattle.terms.specs.Sets.{capacity, fits};
+
+use std::marker::Model;
 
 /// A set of soft numbers, each below 64.
-#[derive(Clone, Copy)]
+#[derive(Clone, Copy, PartialEq, Eq, Debug)]
 pub struct SoftSet {
     bits: u64,
 }
 
+impl Model for SoftSet {
+    ghost use Rattle.std.specs.Prelude.{ℕ};
+
+    ghost Value = { ℕ };
+
+    ghost view = { λ s. s.bits };
+
+    ghost inverse = { λ m. record { bits = m } };
+}
+
 impl SoftSet {
-    fn from_bits(bits: u64) -> SoftSet
-        ensures { mask result ≡ bits }
-    {
-        SoftSet { bits }
-    }
-
-    fn bits(self) -> u64
-        ensures { result ≡ mask self }
-    {
-        self.bits
-    }
-
     pub fn empty() -> SoftSet
-        ensures value { mask result ≡ 0 }
-        ensures members { (k : ℕ) → member (mask result) k ≡ false }
+        ensures value { result ≡ 0 }
+        ensures members { (k : ℕ) → member result k ≡ false }
     {
-        SoftSet::full(0)
+        SoftSet { bits: 0 }
     }
 
     /// The numbers below `s`, all 64 where `s` is more.
     pub fn full(s: usize) -> SoftSet
-        ensures value { mask result ≡ 2 ^ min s capacity - 1 }
-        ensures members { (k : ℕ) → member (mask result) k ≡ (nat_lt k s && fits k) }
+        ensures value { result ≡ 2 ^ min s capacity - 1 }
+        ensures members { (k : ℕ) → member result k ≡ (nat_lt k s && fits k) }
     {
-        SoftSet::from_bits(words::first(s))
+        if s < 64 {
+            SoftSet { bits: (1 << s) - 1 }
+        } else {
+            SoftSet { bits: u64::MAX }
+        }
     }
 
     pub fn has(self, number: usize) -> bool
-        ensures { result ≡ member (mask self) number }
+        ensures { result ≡ member self number }
     {
-        words::has(self.bits(), number)
+        number < 64 && (self.bits >> number) % 2 == 1
     }
 
     /// The set with `number` in it; a number from 64 on changes nothing.
     pub fn insert(self, number: usize) -> SoftSet
-        ensures { (k : ℕ) → member (mask result) k ≡ (member (mask self) k || (number == k && fits k)) }
+        ensures { (k : ℕ) → member result k ≡ (member self k || (number == k && fits k)) }
     {
-        SoftSet::from_bits(words::either(self.bits(), words::single(number)))
+        SoftSet {
+            bits: self.bits | digit(number),
+        }
     }
 
     pub fn remove(self, number: usize) -> SoftSet
-        ensures { (k : ℕ) → member (mask result) k ≡ (member (mask self) k && not (number == k)) }
+        ensures { (k : ℕ) → member result k ≡ (member self k && not (number == k)) }
     {
-        SoftSet::from_bits(words::cleared(self.bits(), number))
+        SoftSet {
+            bits: self.bits & !digit(number),
+        }
     }
 
     pub fn union(self, other: SoftSet) -> SoftSet
-        ensures { (k : ℕ) → member (mask result) k ≡ (member (mask self) k || member (mask other) k) }
+        ensures { (k : ℕ) → member result k ≡ (member self k || member other k) }
     {
-        SoftSet::from_bits(words::either(self.bits(), other.bits()))
+        SoftSet {
+            bits: self.bits | other.bits,
+        }
     }
 
     /// The numbers of this set that the other lacks.
     pub fn minus(self, other: SoftSet) -> SoftSet
-        ensures { (k : ℕ) → member (mask result) k ≡ (member (mask self) k && not (member (mask other) k)) }
+        ensures { (k : ℕ) → member result k ≡ (member self k && not (member other k)) }
     {
-        SoftSet::from_bits(words::without(self.bits(), other.bits()))
+        SoftSet {
+            bits: self.bits & !other.bits,
+        }
     }
 
     pub fn is_empty(self) -> bool
-        ensures value { result ≡ (mask self == 0) }
-        ensures members { Decides result ((k : ℕ) → member (mask self) k ≡ false) }
+        ensures value { result ≡ (self == 0) }
+        ensures members { IsTrue result ↔ ((k : ℕ) → member self k ≡ false) }
     {
-        words::is_zero(self.bits())
+        self.bits == 0
     }
 
     pub fn is_subset(self, other: SoftSet) -> bool
-        ensures value { result ≡ subset (mask self) (mask other) }
-        ensures members { Decides result (Subset (mask self) (mask other)) }
+        ensures value { result ≡ subset self other }
+        ensures members { IsTrue result ↔ Subset self other }
     {
-        words::within(self.bits(), other.bits())
+        self.bits & other.bits == self.bits
     }
 
     /// Whether each number of the set is below `s`.
     pub fn all_below(self, s: usize) -> bool
-        ensures value { result ≡ below s (mask self) }
-        ensures members { Decides result (Below s (mask self)) }
+        ensures value { result ≡ below s self }
+        ensures members { IsTrue result ↔ Below s self }
     {
-        words::all_below(self.bits(), s)
+        s >= 64 || self.bits >> s == 0
     }
 
     pub fn intersects(self, other: SoftSet) -> bool
-        ensures value { result ≡ intersect (mask self) (mask other) }
-        ensures members { Decides result (Intersect (mask self) (mask other)) }
+        ensures value { result ≡ intersect self other }
+        ensures members { IsTrue result ↔ Intersect self other }
     {
-        words::share(self.bits(), other.bits())
+        self.bits & other.bits != 0
     }
 
     /// How many numbers the set has.
     pub fn len(self) -> usize
-        ensures { result ≡ size capacity (mask self) }
+        ensures { result ≡ size capacity self }
     {
-        words::count(self.bits())
+        self.bits.count_ones() as usize
     }
+}
+
+/// The word in which the one number is a member, and none where it is 64 or more.
+fn digit(number: usize) -> u64
+    ensures { (k : ℕ) → member result k ≡ (number == k && fits k) }
+{
+    if number < 64 { 1 << number } else { 0 }
 }
