@@ -2,7 +2,6 @@
 use Rattle.std.specs.Prelude.{◌≡◌, ℕ, true, false, List, length, take, drop, Ok, Err, Result}
 use Rattle.terms.specs.Clauses.{Assignment, breaks}
 use Rattle.terms.specs.Masks.{member, Subset, Below}
-use Rattle.terms.specs.Sets.{mask}
 use Rattle.terms.specs.declared.refusals.Refusal.{Refusal}
 use Rattle.terms.specs.declared.soft_sets.SoftSet.{SoftSet}
 use Rattle.finders.specs.Meanings.{FinderMeaning}
@@ -23,10 +22,10 @@ pub record Core (m : FinderMeaning) (core : ℕ) : Type 0 where
 -- a model stands in the first n bytes and the others are as before; at a core, or where the call is refused, all of them are
 abbrev pub Asked : FinderMeaning → ℕ → List ℕ → Result Answer Refusal → List ℕ → Type 0
 Asked m set before (Ok Found) after = Model m set (take m.n after) × (drop m.n after ≡ drop m.n before)
-Asked m set before (Ok (Conflict core)) after = Core m (mask core) × Subset (mask core) set × (after ≡ before)
+Asked m set before (Ok (Conflict core)) after = Core m core × Subset core set × (after ≡ before)
 Asked m set before (Err r) after = after ≡ before
 
 -- exactly the soft clauses that the assignment in the first n bytes breaks
 abbrev pub ToldBroken : FinderMeaning → List ℕ → Result SoftSet Refusal → Type 0
-ToldBroken m a (Ok set) = (k : ℕ) → member (mask set) k ≡ breaks (take m.n a) m.softs k
+ToldBroken m a (Ok set) = (k : ℕ) → member set k ≡ breaks (take m.n a) m.softs k
 ToldBroken m a (Err r) = Unit {0}

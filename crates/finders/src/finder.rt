@@ -1,7 +1,6 @@
 //! The trait `Finder`. Whatever stands behind it, its calls are told by its meaning alone.
 ghost use Rattle.std.specs.Prelude.{◌≡◌, length};
 ghost use Rattle.terms.specs.Refusals.{told, unless_refused};
-ghost use Rattle.terms.specs.Sets.{mask};
 ghost use Rattle.finders.specs.Meanings.{FinderMeaning, Limited, with_hard, with_soft};
 ghost use Rattle.finders.specs.Refused.{hard_refused, soft_refused, ask_refused, broken_refused};
 ghost use Rattle.finders.specs.Questions.{Asked, ToldBroken};
@@ -9,7 +8,7 @@ ghost use Rattle.finders.specs.Questions.{Asked, ToldBroken};
 use terms::{Refusal, SoftSet};
 
 /// What a finder answers when it is asked for a set of soft clauses.
-#[derive(Clone, Copy)]
+#[derive(Clone, Copy, PartialEq, Eq, Debug)]
 pub enum Answer {
     /// An admitted assignment satisfies them all; it is in the buffer.
     Model,
@@ -53,8 +52,8 @@ pub trait Finder {
     /// Looks for an admitted assignment that satisfies all soft clauses of the set.
     /// Only a model is written into the buffer, into the first n bytes.
     fn ask(&self, set: SoftSet, buffer: &mut [u8]) -> Result<Answer, Refusal>
-        ensures refusal { told result ≡ ask_refused (meaning self.now) (mask set) buffer.old }
-        ensures answer { Asked (meaning self.now) (mask set) buffer.old result buffer.new };
+        ensures refusal { told result ≡ ask_refused (meaning self.now) set buffer.old }
+        ensures answer { Asked (meaning self.now) set buffer.old result buffer.new };
 
     /// Which soft clauses the assignment in the first n bytes breaks.
     fn broken(&self, assignment: &[u8]) -> Result<SoftSet, Refusal>

@@ -1,7 +1,6 @@
 -- Cores with no member to spare.
 use Rattle.std.specs.Prelude.{◌≡◌, ℕ, true, not, ◌&&◌, List, Some, None, Ok, Err, Option, Result, ◌==◌}
 use Rattle.terms.specs.Masks.{member, Subset}
-use Rattle.terms.specs.Sets.{mask}
 use Rattle.terms.specs.declared.refusals.Refusal.{Refusal}
 use Rattle.terms.specs.declared.soft_sets.SoftSet.{SoftSet}
 use Rattle.finders.specs.Meanings.{FinderMeaning}
@@ -27,7 +26,7 @@ Minimal m set = (k : ℕ) → member set k ≡ true → Needed m set k
 -- an answer's core is minimal
 abbrev pub Shrunk : FinderMeaning → Result Answer Refusal → Type 0
 Shrunk m (Ok Found) = Unit {0}
-Shrunk m (Ok (Conflict core)) = Minimal m (mask core)
+Shrunk m (Ok (Conflict core)) = Minimal m core
 Shrunk m (Err r) = Unit {0}
 
 -- a core within another, in which number k is needed if it is there
@@ -38,5 +37,5 @@ pub record Smaller (m : FinderMeaning) (whole k smaller : ℕ) : Type 0 where
 
 -- a core within the set, or none where the set has a model
 abbrev pub Cored : FinderMeaning → ℕ → Option SoftSet → Type 0
-Cored m set (Some core) = Core m (mask core) × Subset (mask core) set
+Cored m set (Some core) = Core m core × Subset core set
 Cored m set None = HasModel m set

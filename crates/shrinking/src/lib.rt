@@ -1,7 +1,6 @@
 //! The shrinking layer: it stands on any finder, and its cores have no member to spare.
 #![tactic(auto)]
 
-mod finder;
-mod shrink;
+mod shrinking;
 
-pub use shrink::Shrinking;
+pub use shrinking::Shrinking;
