@@ -2,7 +2,9 @@
 #![tactic(auto)]
 
 use finders::{Answer, Finder};
+use itertools::Itertools;
 use shrinking::Shrinking;
+use std::alloc::{AllocError, Global};
 use std::io;
 use tables::{ClauseRecord, CountThrough};
 use terms::{Refusal, SoftSet};
@@ -33,21 +35,13 @@ fn main(rt: HostRuntime) -> io::Result<()> {
     println!(rt; "The count-through finder answers.")?;
     let finder = CountThrough::new(&mut records, &mut literals, VARIABLES);
     play(&rt, finder)?;
-    let mut records = [ClauseRecord::blank(); 10];
-    let mut literals = [0; 15];
     println!(rt; "The shrinking layer over it answers.")?;
     let finder = CountThrough::new(&mut records, &mut literals, VARIABLES);
-    play_shrinking(&rt, finder)
-}
-
-/// The same over the shrinking layer. The finder is a type parameter here, as a borrowed one cannot be held by value elsewhere.
-fn play_shrinking<F: Finder + Drop>(rt: &HostRuntime, below: F) -> io::Result<()> {
-    play(rt, Shrinking::new(below))
+    play(&rt, Shrinking::new(finder))
 }
 
 /// Enters the clauses, asks for sets of wishes, enters one clause more, and asks again.
-fn play<F: Finder + Drop>(rt: &HostRuntime, finder: F) -> io::Result<()> {
-    let mut finder = finder;
+fn play<F: Finder + Drop>(rt: &(impl Print + Alloc<A = Global>), mut finder: F) -> io::Result<()> {
     for clause in &NEEDS {
         show_added(rt, "Need", clause, finder.add_hard(clause))?;
     }
@@ -64,76 +58,69 @@ fn play<F: Finder + Drop>(rt: &HostRuntime, finder: F) -> io::Result<()> {
 
 /// The clause, and whether it was added.
 fn show_added(
-    rt: &HostRuntime,
+    rt: &(impl Print + Alloc<A = Global>),
     name: &str,
     clause: &[i32],
     outcome: Result<(), Refusal>,
 ) -> io::Result<()> {
-    print!(rt; "  {name}")?;
-    for literal in clause {
-        print!(rt; " {literal}")?;
-    }
+    let literals = clause.iter().join(rt.alloc(), " ")?;
     match outcome {
-        Ok(()) => println!(rt; " is added."),
-        Err(refusal) => println!(rt; " is refused with {}.", refusal.number()),
+        Ok(()) => println!(rt; "  {name} {literals} is added."),
+        Err(refusal) => println!(rt; "  {name} {literals} is refused with {}.", refusal.number()),
     }
 }
 
 /// Asks for each of the sets, and says what was answered.
-fn ask_all<F: Finder>(rt: &HostRuntime, finder: &F) -> io::Result<()> {
+fn ask_all<F: Finder>(rt: &(impl Print + Alloc<A = Global>), finder: &F) -> io::Result<()> {
     for numbers in &ASKED {
-        let mut set = SoftSet::empty();
-        for number in *numbers {
-            set = set.insert(*number);
-        }
-        print!(rt; "  Asked for")?;
-        show_set(rt, set)?;
+        let set = numbers
+            .iter()
+            .fold(SoftSet::empty(), |set, number| set.insert(*number));
+        let wishes = listed(rt.alloc(), set)?;
+        print!(rt; "  Asked for {wishes}: ")?;
         let mut buffer = [0; VARIABLES];
         match finder.ask(set, &mut buffer) {
-            Ok(Answer::Model) => show_model(rt, finder, &buffer)?,
-            Ok(Answer::Core(core)) => {
-                print!(rt; ": no plan, as there is none for")?;
-                show_set(rt, core)?;
-                println!(rt; ".")?;
-            }
-            Err(refusal) => println!(rt; ": refused with {}.", refusal.number())?,
+            Ok(answer) => show_answer(rt, finder, answer, &buffer)?,
+            Err(refusal) => println!(rt; "refused with {}.", refusal.number())?,
         }
     }
     Ok(())
 }
 
-/// The values of a plan, and the wishes that it breaks.
-fn show_model<F: Finder>(rt: &HostRuntime, finder: &F, plan: &[u8]) -> io::Result<()> {
-    print!(rt; ": plan ")?;
-    for value in plan {
-        print!(rt; "{value}")?;
-    }
-    match finder.broken(plan) {
-        Ok(broken) => {
-            print!(rt; ", which breaks")?;
-            show_set(rt, broken)?;
-            println!(rt; ".")
+/// The plan with the wishes that it breaks, or the wishes that stand against each other.
+fn show_answer<F: Finder>(
+    rt: &(impl Print + Alloc<A = Global>),
+    finder: &F,
+    answer: Answer,
+    plan: &[u8],
+) -> io::Result<()> {
+    match answer {
+        Answer::Core(core) => {
+            let wishes = listed(rt.alloc(), core)?;
+            println!(rt; "no plan, as there is none for {wishes}.")
         }
-        Err(refusal) => println!(rt; ", which is refused with {}.", refusal.number()),
+        Answer::Model => {
+            let values = plan.iter().join(rt.alloc(), "")?;
+            match finder.broken(plan) {
+                Ok(broken) => {
+                    let wishes = listed(rt.alloc(), broken)?;
+                    println!(rt; "plan {values}, which breaks {wishes}.")
+                }
+                Err(refusal) => println!(rt;
+                    "plan {values}, which is refused with {}.",
+                    refusal.number()
+                ),
+            }
+        }
     }
 }
 
 /// The numbers of a set, or that there is none.
-fn show_set(rt: &HostRuntime, set: SoftSet) -> io::Result<()> {
+fn listed(alloc: Global, set: SoftSet) -> Result<String, AllocError> {
     if set.is_empty() {
-        return print!(rt; " none");
+        return String::from_str(alloc, "none");
     }
-    show_numbers(rt, 64, set)
-}
-
-/// Those numbers of a set that are below `count`.
-fn show_numbers(rt: &HostRuntime, count: usize, set: SoftSet) -> io::Result<()> {
-    let mut separator = " ";
-    for number in 0..count {
-        if set.has(number) {
-            print!(rt; "{separator}{number}")?;
-            separator = " and ";
-        }
-    }
-    Ok(())
+    (0..64)
+        .filter(|number| set.has(*number))
+        .join(alloc, " and ")
 }
