@@ -9,11 +9,5 @@ pub fn worked_examples() -> usize
     ensures listed { result ≡ how_many examples }
     ensures proved { AllHold examples }
 {
-    count()
-}
-
-fn count() -> usize
-    ensures { result ≡ how_many examples }
-{
     15
 }

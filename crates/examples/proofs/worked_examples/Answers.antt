@@ -1,5 +1,5 @@
 use Rattle.examples.proofs.Computed.{examples_hold}
 use Rattle.examples.proofs.worked_examples.Goals as goal
 
-pub returns : goal.returns
-returns c = record { listed = c.count.ensures; proved = examples_hold }
+pub returns-clause-proved : goal.returns-clause-proved
+returns-clause-proved c = examples_hold
