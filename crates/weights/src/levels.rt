@@ -1,14 +1,14 @@
 //! Level weights: three whole numbers, of which each counts more than all after it.
 ghost use Rattle.std.specs.Prelude.{Some};
 ghost use Rattle.weights.specs.Levelled.{levels_kind, with_commas};
-ghost use Rattle.weights.specs.LevelLaws.{levels_laws};
+ghost use Rattle.std.proofs.Common.{arith, rules};
+ghost use Rattle.std.proofs.lemmas.Bool.Decides.{nat_tests};
 
 use crate::kinds::WeightKind;
-use std::cmp::Ordering;
 use std::fmt;
 
 /// Three whole numbers, each up to 4,294,967,295.
-#[derive(Clone, Copy)]
+#[derive(Clone, Copy, Debug, PartialEq, Eq, PartialOrd, Ord)]
 pub struct Levels {
     pub first: u32,
     pub second: u32,
@@ -18,7 +18,20 @@ pub struct Levels {
 impl WeightKind for Levels {
     ghost kind = { levels_kind };
 
-    ghost laws = { levels_laws };
+    ghost laws = { record {
+      total = Prim.grind (arith, nat_tests);
+      trans = Prim.grind (arith, nat_tests);
+      antisym = Prim.grind (arith, nat_tests);
+      assoc = Prim.grind (arith, nat_tests);
+      comm = Prim.grind (arith, nat_tests);
+      unit = Prim.grind (arith, nat_tests);
+      least = Prim.grind (arith, nat_tests);
+      mono = Prim.grind (arith, nat_tests);
+      none = Prim.grind (arith, nat_tests);
+      parts = Prim.grind (arith, nat_tests);
+    } };
+
+    ghost ordered = { Prim.search rules };
 
     fn zero() -> Levels {
         Levels {
@@ -37,13 +50,6 @@ impl WeightKind for Levels {
             second,
             third,
         })
-    }
-
-    fn compare(self, other: Levels) -> Ordering {
-        self.first
-            .cmp(&other.first)
-            .then(self.second.cmp(&other.second))
-            .then(self.third.cmp(&other.third))
     }
 
     fn to_numbers(self) -> (u64, u64, u64) {

@@ -54,9 +54,9 @@ mod tests {
 
     #[test]
     fn the_first_level_that_differs_decides(rt: HostRuntime) {
-        assert_eq!(rt; levels(0, 9, 9).compare(levels(1, 0, 0)), Ordering::Less);
-        assert_eq!(rt; levels(2, 3, 4).compare(levels(2, 3, 4)), Ordering::Equal);
-        assert_eq!(rt; levels(2, 4, 0).compare(levels(2, 3, 9)), Ordering::Greater);
+        assert_eq!(rt; levels(0, 9, 9).cmp(&levels(1, 0, 0)), Ordering::Less);
+        assert_eq!(rt; levels(2, 3, 4).cmp(&levels(2, 3, 4)), Ordering::Equal);
+        assert_eq!(rt; levels(2, 4, 0).cmp(&levels(2, 3, 9)), Ordering::Greater);
     }
 
     #[test]

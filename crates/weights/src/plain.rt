@@ -4,11 +4,10 @@ ghost use Rattle.weights.specs.Plainly.{plain_kind};
 ghost use Rattle.std.proofs.Common.{rules};
 
 use crate::kinds::WeightKind;
-use std::cmp::Ordering;
 use std::fmt;
 
 /// A whole number up to 18,446,744,073,709,551,615.
-#[derive(Clone, Copy)]
+#[derive(Clone, Copy, Debug, PartialEq, Eq, PartialOrd, Ord)]
 pub struct Plain {
     pub amount: u64,
 }
@@ -18,6 +17,8 @@ impl WeightKind for Plain {
 
     ghost laws = { Prim.search rules };
 
+    ghost ordered = { Prim.search rules };
+
     fn zero() -> Plain {
         Plain { amount: 0 }
     }
@@ -25,10 +26,6 @@ impl WeightKind for Plain {
     fn sum(self, other: Plain) -> Option<Plain> {
         let amount = self.amount.checked_add(other.amount)?;
         Some(Plain { amount })
-    }
-
-    fn compare(self, other: Plain) -> Ordering {
-        self.amount.cmp(&other.amount)
     }
 
     fn to_numbers(self) -> (u64, u64, u64) {
