@@ -1,13 +1,15 @@
 //! What a plan breaks of a list of soft clauses, and what it pays for that.
-#![tactic(auto)]
+#![tactic(auto, using(crate::proofs::PriceLaws::price_laws))]
 
-ghost use Rattle.std.specs.Prelude.{◌≡◌, ℕ, ◌&&◌, None};
+ghost use Rattle.std.specs.Prelude.{◌≡◌, ℕ, ◌&&◌, IfOk};
+ghost use Rattle.std.specs.Result.{result_err};
 ghost use Rattle.terms.specs.Clauses.{breaks};
 ghost use Rattle.terms.specs.Masks.{member};
 ghost use Rattle.terms.specs.Sets.{mask, fits};
-ghost use Rattle.pricing.specs.Prices.{clauses_of, unpriced, Priced, Answered};
+ghost use Rattle.pricing.specs.Prices.{clauses_of, unpriced, Priced};
 
 use terms::{SoftSet, satisfies};
+use thiserror::Error;
 use weights::{WeightKind, cost_of};
 
 /// The soft clauses that a plan breaks, and the exact total of their weights, if it can be held.
@@ -18,11 +20,13 @@ pub struct Price<W> {
 }
 
 /// Why soft clauses cannot be priced.
-#[derive(Clone, Copy)]
+#[derive(Clone, Copy, Debug, PartialEq, Eq, Error)]
 pub enum Unpriced {
     /// There are more clauses than the 64 that a set can number.
+    #[error("There are more than 64 soft clauses")]
     TooMany,
     /// There is not one weight for each clause.
+    #[error("Not each soft clause has its weight")]
     Unmatched,
 }
 
@@ -32,36 +36,28 @@ pub fn price_plan<W: WeightKind>(
     clauses: &[&[i32]],
     weights: &[W],
 ) -> Result<Price<W>, Unpriced>
-    ensures { Answered W.WeightKind.kind plan.now clauses.now weights.now result }
+    ensures refused { result_err result ≡ unpriced clauses.now weights.now }
+    ensures priced { IfOk result (Priced W.kind plan.now (clauses_of clauses.now) weights.now) }
 {
-    match refuse(clauses, weights) {
-        Some(refusal) => Err(refusal),
-        None => Ok(price_matched(plan, clauses, weights)),
-    }
-}
-
-/// The price of a plan, for clauses and weights that are not refused.
-fn price_matched<W: WeightKind>(plan: &[u8], clauses: &[&[i32]], weights: &[W]) -> Price<W>
-    ensures { unpriced clauses.now weights.now ≡ None → Priced W.WeightKind.kind plan.now (clauses_of clauses.now) weights.now result }
-{
+    check(clauses, weights)?;
     let broken = broken_by(plan, clauses);
-    Price {
+    Ok(Price {
         broken,
         total: cost_of(weights, broken),
-    }
+    })
 }
 
-/// Why these clauses with these weights cannot be priced, if they cannot.
-fn refuse<W: WeightKind>(clauses: &[&[i32]], weights: &[W]) -> Option<Unpriced>
-    ensures { result ≡ unpriced clauses.now weights.now }
+/// Refuses more clauses than a set can number, and clauses without one weight each.
+fn check<W>(clauses: &[&[i32]], weights: &[W]) -> Result<(), Unpriced>
+    ensures { result_err result ≡ unpriced clauses.now weights.now }
 {
     if clauses.len() > 64 {
-        Some(Unpriced::TooMany)
-    } else if clauses.len() != weights.len() {
-        Some(Unpriced::Unmatched)
-    } else {
-        None
+        return Err(Unpriced::TooMany);
     }
+    if clauses.len() != weights.len() {
+        return Err(Unpriced::Unmatched);
+    }
+    Ok(())
 }
 
 /// Which of the clauses the plan breaks, as far as a set can number them.
@@ -89,21 +85,19 @@ mod tests {
 
     #[test]
     fn sixty_four_clauses_can_be_priced_and_no_more(rt: HostRuntime) -> Result<(), Fail> {
-        let price = price_plan(&[0], &MOST, &[Plain { amount: 2 }; 64])
-            .ok()
-            .ok_or("refused")?;
+        let price = price_plan(&[0], &MOST, &[Plain::new(2); 64])?;
         assert_eq!(rt; price.broken.len(), 64);
-        assert_eq!(rt; price.total.ok_or("not held")?.amount, 128);
-        let many = price_plan(&[0], &TOO_MANY, &[Plain { amount: 2 }; 65]);
-        assert!(rt; matches!(many, Err(Unpriced::TooMany)));
+        assert_eq!(rt; price.total, Some(Plain::new(128)));
+        let many = price_plan(&[0], &TOO_MANY, &[Plain::new(2); 65]);
+        assert_eq!(rt; many.err(), Some(Unpriced::TooMany));
         Ok(())
     }
 
     #[test]
     fn every_clause_needs_a_weight(rt: HostRuntime) {
-        let short = price_plan(&[0], &MOST, &[Plain { amount: 2 }; 63]);
-        assert!(rt; matches!(short, Err(Unpriced::Unmatched)));
-        let long = price_plan(&[0], &MOST, &[Plain { amount: 2 }; 65]);
-        assert!(rt; matches!(long, Err(Unpriced::Unmatched)));
+        let short = price_plan(&[0], &MOST, &[Plain::new(2); 63]);
+        assert_eq!(rt; short.err(), Some(Unpriced::Unmatched));
+        let long = price_plan(&[0], &MOST, &[Plain::new(2); 65]);
+        assert_eq!(rt; long.err(), Some(Unpriced::Unmatched));
     }
 }

@@ -1,8 +1,8 @@
 -- The cost of a set of soft numbers, and the cost of an assignment.
-use Rattle.std.specs.Prelude.{◌≡◌, ℕ, suc, Bool, true, cond, List, [], ◌∷◌, ℤ, Option}
+use Rattle.std.specs.Prelude.{ℕ, suc, Bool, cond, List, [], ◌∷◌, ℤ}
 use Rattle.terms.specs.Clauses.{satisfied_by}
 use Rattle.terms.specs.Masks.{member}
-use Rattle.weights.specs.Kinds.{Kind, Totals}
+use Rattle.weights.specs.Kinds.{Kind}
 
 -- the soft clauses with their weights, in order
 abbrev pub paired : {W : Type 0} → List W → List (List ℤ) → List (W × List ℤ)
@@ -19,10 +19,6 @@ module _ {W : Type 0} (K : Kind W) where
   -- the cost of a set, given by its mask
   abbrev pub cost : List W → ℕ → K.V
   cost ws m = cost_from ws (member m) 0
-
-  -- r is the total of a weight that can be held and the cost of a set
-  abbrev pub Adds : W → List W → ℕ → Option W → Type 0
-  Adds w ws m r = K.holds (K.value w) ≡ true → Totals K (K.plus (K.value w) (cost ws m)) r
 
   -- the cost of an assignment: the sum of the weights of the soft clauses that it breaks
   abbrev pub charge : List (W × List ℤ) → List ℕ → K.V

@@ -2,4 +2,3 @@ pub mod Costs
 pub mod Kinds
 pub mod Levelled
 pub mod Plainly
-pub mod LevelLaws

@@ -2,10 +2,8 @@
 ghost use Rattle.std.specs.Prelude.{◌≡◌, true};
 ghost use Rattle.weights.specs.Kinds.{Kind, Laws, Totals, ordering, ComesBack, StandsFor};
 
-use std::cmp::Ordering;
-
 /// A kind of weights: its values have no limit of size, and each of its weights means one that it can hold.
-pub trait WeightKind: Copy {
+pub trait WeightKind: Copy + Ord {
     ghost kind: { Kind Self };
 
     fn zero() -> Self
@@ -14,9 +12,6 @@ pub trait WeightKind: Copy {
     /// The exact total, or none where the kind cannot hold it.
     fn sum(self, other: Self) -> Option<Self>
         ensures { Totals kind (kind.plus (kind.value self) (kind.value other)) result };
-
-    fn compare(self, other: Self) -> Ordering
-        ensures { result ≡ ordering kind (kind.value self) (kind.value other) };
 
     /// The weight as three numbers.
     fn to_numbers(self) -> (u64, u64, u64)
@@ -29,4 +24,7 @@ pub trait WeightKind: Copy {
         ensures only { StandsFor kind three result };
 
     ghost laws: { Laws kind };
+
+    // Weights compare by their values.
+    ghost ordered: { (x y : Self) → Self.cmp x y ≡ ordering kind (kind.value x) (kind.value y) };
 }
