@@ -3,7 +3,7 @@ use Rattle.std.specs.Prelude.{◌≡◌, ℕ, if◌then◌else◌, List, length,
 use Rattle.std.specs.Borrow.{Bor}
 use Rattle.terms.specs.Clauses.{breaks}
 use Rattle.terms.specs.Masks.{member}
-use Rattle.terms.specs.Sets.{mask, capacity}
+use Rattle.terms.specs.Sets.{capacity}
 use Rattle.weights.specs.Costs.{charge, paired}
 use Rattle.weights.specs.Kinds.{Kind, Totals}
 use Rattle.pricing.specs.declared.Price.{Price}
@@ -23,5 +23,5 @@ unpriced cs ws =
 
 -- the broken clauses by their numbers, and the cost of the plan, if it can be held
 pub record Priced {W : Type 0} (K : Kind W) (a : List ℕ) (cs : List (List ℤ)) (ws : List W) (p : Price W) : Type 0 where
-  pub broken : (k : ℕ) → member (mask p.broken) k ≡ breaks a cs k
+  pub broken : (k : ℕ) → member p.broken k ≡ breaks a cs k
   pub total : Totals K (charge K (paired ws cs) a) p.total

@@ -5,7 +5,7 @@ ghost use Rattle.std.specs.Prelude.{◌≡◌, ℕ, ◌&&◌, IfOk};
 ghost use Rattle.std.specs.Result.{result_err};
 ghost use Rattle.terms.specs.Clauses.{breaks};
 ghost use Rattle.terms.specs.Masks.{member};
-ghost use Rattle.terms.specs.Sets.{mask, fits};
+ghost use Rattle.terms.specs.Sets.{fits};
 ghost use Rattle.pricing.specs.Prices.{clauses_of, unpriced, Priced};
 
 use terms::{SoftSet, satisfies};
@@ -62,7 +62,7 @@ fn check<W>(clauses: &[&[i32]], weights: &[W]) -> Result<(), Unpriced>
 
 /// Which of the clauses the plan breaks, as far as a set can number them.
 fn broken_by(plan: &[u8], clauses: &[&[i32]]) -> SoftSet
-    ensures { (k : ℕ) → member (mask result) k ≡ (breaks plan.now (clauses_of clauses.now) k && fits k) }
+    ensures { (k : ℕ) → member result k ≡ (breaks plan.now (clauses_of clauses.now) k && fits k) }
 {
     let mut broken = SoftSet::empty();
     for (number, clause) in clauses.iter().enumerate() {

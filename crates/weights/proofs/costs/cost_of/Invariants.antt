@@ -1,6 +1,5 @@
 use Rattle.std.proofs.Common.{◌≡◌, true, drop}
 use Rattle.terms.specs.Masks.{member}
-use Rattle.terms.specs.Sets.{mask}
 use Rattle.weights.specs.Costs.{cost, cost_from}
 use Rattle.weights.proofs.costs.cost_of.Given as goal
 
@@ -10,5 +9,5 @@ invariant-loop-number g l =
     let K = g.W.WeightKind.kind in
     record {
       held : K.holds (K.value l.total) ≡ true;
-      whole : K.plus (K.value l.total) (cost_from K (drop l.number l.weights) (member (mask l.set)) l.number) ≡ cost K l.weights (mask l.set);
+      whole : K.plus (K.value l.total) (cost_from K (drop l.number l.weights) (member l.set) l.number) ≡ cost K l.weights l.set;
     }
