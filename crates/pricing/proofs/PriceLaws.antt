@@ -2,12 +2,13 @@
 use Rattle.std.proofs.Common.{◌≡◌, ℕ, ◌<◌, ◌&&◌, ◌∙◌, List, [], length, get_or, ℤ, None, sym, arith, Bor}
 use Rattle.std.proofs.lemmas.Bool.Decides.{nat_tests}
 use Rattle.std.proofs.lemmas.List.{get_or-map, length-map}
+use Rattle.std.specs.List.{zip}
 use Rattle.terms.specs.Clauses.{breaks}
 use Rattle.terms.specs.Masks.{member}
 use Rattle.terms.specs.Sets.{fits}
 use Rattle.terms.proofs.ClauseLaws.{all_fit}
 use Rattle.weights.specs.Kinds.{Kind}
-use Rattle.weights.specs.Costs.{cost, charge, paired}
+use Rattle.weights.specs.Costs.{cost, charge}
 use Rattle.weights.proofs.CostLaws.{broken_charge}
 use Rattle.pricing.specs.Prices.{clauses_of, unpriced}
 
@@ -23,7 +24,7 @@ pub all_broken : {W : Type 0} (a : List ℕ) (cs : List (Bor (List ℤ))) (ws : 
 all_broken a cs ws k e = all_fit a (clauses_of cs) k (grind (arith, nat_tests, length_clauses))
 
 pub priced_total : {W : Type 0} (K : Kind W) (a : List ℕ) (cs : List (Bor (List ℤ))) (ws : List W) (m : ℕ) → None ≡ unpriced cs ws
-    → ((k : ℕ) → member m k ≡ (breaks a (clauses_of cs) k && fits k)) → cost K ws m ≡ charge K (paired ws (clauses_of cs)) a
+    → ((k : ℕ) → member m k ≡ (breaks a (clauses_of cs) k && fits k)) → cost K ws m ≡ charge K (zip ws (clauses_of cs)) a
 priced_total K a cs ws m e h = broken_charge K ws (clauses_of cs) a m (grind (arith, nat_tests, length_clauses)) (λ k. h k ∙ all_broken a cs ws k e)
 
 pub ruleset price_laws = (nat_tests, clause_at, length_clauses, all_broken, priced_total)

@@ -1,10 +1,11 @@
 -- What a plan breaks of a list of soft clauses, and what it pays for that.
 use Rattle.std.specs.Prelude.{◌≡◌, ℕ, if◌then◌else◌, List, length, map, ℤ, Some, None, Option, ◌==◌, nat_lt}
 use Rattle.std.specs.Borrow.{Bor}
+use Rattle.std.specs.List.{zip}
 use Rattle.terms.specs.Clauses.{breaks}
 use Rattle.terms.specs.Masks.{member}
 use Rattle.terms.specs.Sets.{capacity}
-use Rattle.weights.specs.Costs.{charge, paired}
+use Rattle.weights.specs.Costs.{charge}
 use Rattle.weights.specs.Kinds.{Kind, Totals}
 use Rattle.pricing.specs.declared.Price.{Price}
 use Rattle.pricing.specs.declared.Unpriced.{Unpriced}
@@ -24,4 +25,4 @@ unpriced cs ws =
 -- the broken clauses by their numbers, and the cost of the plan, if it can be held
 pub record Priced {W : Type 0} (K : Kind W) (a : List ℕ) (cs : List (List ℤ)) (ws : List W) (p : Price W) : Type 0 where
   pub broken : (k : ℕ) → member p.broken k ≡ breaks a cs k
-  pub total : Totals K (charge K (paired ws cs) a) p.total
+  pub total : Totals K (charge K (zip ws cs) a) p.total

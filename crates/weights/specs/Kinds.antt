@@ -1,5 +1,5 @@
 -- What a weight kind means: values without limit of size, and which of them a weight can hold.
-use Rattle.std.specs.Prelude.{◌≡◌, ℕ, Bool, true, false, cond, Some, None, Option}
+use Rattle.std.specs.Prelude.{◌≡◌, ℕ, Bool, true, false, if◌then◌else◌, Some, None, Option}
 use Rattle.std.specs.declared.cmp.Ordering.TheVariants.{Less, Equal, Greater}
 use Rattle.std.specs.declared.cmp.Ordering.{Ordering}
 use Rattle.std.specs.Option.{option_map}
@@ -40,7 +40,7 @@ module _ {W : Type 0} (K : Kind W) where
   Totals v (Some w) = (K.holds v ≡ true) × (K.value w ≡ v)
 
   abbrev pub ordering : K.V → K.V → Ordering
-  ordering x y = cond (K.le x y) (cond (K.le y x) Equal Less) Greater
+  ordering x y = if K.le x y then if K.le y x then Equal else Less else Greater
 
   -- the three numbers of a value that can be held give that value back
   abbrev pub ComesBack : ℕ × ℕ × ℕ → Option W → Type 0
