@@ -1,20 +1,30 @@
 -- Whether an assignment meets the hard clauses and those of a set, clause by clause through the tables.
-use Rattle.std.proofs.Common.{◌≡◌, ℕ, ◌+◌, ◌<◌, Bool, true, false, not, ◌&&◌, ◌||◌, eqb, List, [], ◌∷◌, length, get_or, drop, ℤ, Decides, sym, refl, ap, ◌∙◌, ⊎_elim}
-use Rattle.std.proofs.lemmas.List.{at_drop_more}
+use Rattle.std.proofs.Common.{◌≡◌, ℕ, ◌+◌, ◌<◌, Bool, true, false, not, ◌&&◌, ◌||◌, eqb, List, [], ◌∷◌, length, ℤ, Decides, sym, refl, ap, ◌∙◌, ⊎_elim}
+use Rattle.std.specs.Bool.{MatchBool}
+use Rattle.std.specs.List.{list_all, AllWithin, HoldsAt}
+use Rattle.std.proofs.lemmas.List.Elements.{All-from_all_within}
+use Rattle.std.proofs.lemmas.List.Sums.{list_all-from_AllPass}
+use Rattle.std.proofs.lemmas.List.Folds.{list_all_at}
 use Rattle.std.proofs.lemmas.Bool.{and_parts, and_from, and_left, and_right, or_parts, or_from, or_left, or_right, cases_Bool, both_ways, eq-eqb, ne_eqb, not-true, not_from_false}
 use Rattle.std.proofs.lemmas.Bool.Decides.{Decides-and, Decides-like}
 use Rattle.terms.specs.Clauses.{satisfied_by, breaks}
 use Rattle.terms.specs.Masks.{member}
-use Rattle.tables.specs.Entries.{Entry, hards, softs, hard_part, satisfied_all, numbered, no_entry}
+use Rattle.tables.specs.Entries.{Entry, hards, softs, hard_part, satisfied_all, numbered}
 use Rattle.tables.specs.Trying.{met}
 use Rattle.tables.specs.declared.records.ClauseKind.{ClauseKind}
 use Rattle.tables.specs.declared.records.ClauseKind.TheVariants.{Hard, Soft}
 use Rattle.tables.proofs.Pushed.{satisfied_all-append}
 use Rattle.tables.proofs.Breaking.{broken_as, broken_in, broken_is}
 
+-- each clause is met
 abbrev pub all_met : ℕ → List ℕ → List Entry → Bool
-all_met set a [] = true
-all_met set a (e ∷ es) = met set a e.kind e.clause && all_met set a es
+all_met set a = list_all (λ e. met set a e.kind e.clause)
+
+pub all_met_from_cases : (set : ℕ) (a : List ℕ) (es : List Entry) (r : Bool)
+    → MatchBool r (AllWithin (λ e. met set a e.kind e.clause ≡ true) es 0 (length es)) ((k : ℕ) × (k < length es) × HoldsAt (λ e. met set a e.kind e.clause ≡ false) es k)
+    → r ≡ all_met set a es
+all_met_from_cases set a es true h = sym (list_all-from_AllPass _ es (All-from_all_within (λ e. met set a e.kind e.clause ≡ true) es h))
+all_met_from_cases set a es false h = let none : Entry = record { kind = Hard; clause = [] } in sym (list_all_at _ es h.0 none h.1 (h.2 none))
 
 -- the same by what is broken
 abbrev Unbroken : ℕ → List ℕ → List Entry → Type 0
@@ -72,10 +82,3 @@ met_decides set a es n =
     (λ u. (u.0, λ j h. sym (broken_is es a j n) ∙ u.1 j h))
     (λ u. (u.0, λ j h. broken_is es a j n ∙ u.1 j h))
     (all_unbroken set a es)
-
--- ---- one clause further: what is left decides, and b says of the clause at k whether it is met
-pub next_met : (set : ℕ) (a : List ℕ) (es : List Entry) (k : ℕ) (e : Entry) (b : Bool) → k < length es → e ≡ get_or es k no_entry → b ≡ met set a e.kind e.clause
-    → all_met set a (drop k es) ≡ all_met set a es → (b && all_met set a (drop (k + 1) es)) ≡ all_met set a es
-next_met set a es k e b l at m inv =
-    ap (λ x. x && all_met set a (drop (k + 1) es)) (m ∙ ap (λ x. met set a x.kind x.clause) at)
-    ∙ sym (at_drop_more (all_met set a) es k no_entry l) ∙ inv

@@ -1,14 +1,12 @@
 //! Clause tables in memory that the caller lends, and the finders that keep their clauses in them.
 #![tactic(auto)]
 
-mod adding;
+mod clauses;
 mod count_through;
-mod counting;
-mod making;
-mod reading;
+mod lent;
 mod records;
+mod room;
 mod tables;
-mod trying;
 
 pub use count_through::CountThrough;
 pub use records::ClauseRecord;
