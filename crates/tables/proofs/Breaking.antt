@@ -62,21 +62,3 @@ broken_numbered s (e ∷ es) a j h = by_kind e.kind (and_parts (well_numbered s 
 pub broken_is : (es : List Entry) (a : List ℕ) (j : ℕ) → numbered 0 es ≡ true → broken_in es a j ≡ breaks a (softs es) j
 broken_is es a j h =
     broken_numbered 0 es a j h ∙ ap₂ (λ b i. b && breaks a (softs es) i) (le-leb 0 j (omega arith)) (let z : j - 0 ≡ j = omega arith in z)
-
--- ---- one clause further: q says whether number j is broken there, r whether it is among the clauses that follow, f whether it fits a set
-pub next_broken : (m m' q r f all : Bool) → m' ≡ (m || (q && f)) → (m || ((q || r) && f)) ≡ all → (m' || (r && f)) ≡ all
-next_broken m m' q r f all e inv = ap (λ x. x || (r && f)) e ∙ regroup m q r f ∙ inv
-  where
-    regroup : (m q r f : Bool) → ((m || (q && f)) || (r && f)) ≡ (m || ((q || r) && f))
-    regroup true q r f = refl
-    regroup false true r true = refl
-    regroup false true true false = refl
-    regroup false true false false = refl
-    regroup false false r f = refl
-
-pub not_broken : (m q f : Bool) → q ≡ false → m ≡ (m || (q && f))
-not_broken true q f e = refl
-not_broken false q f e = sym (ap (λ x. x && f) e)
-
-pub soft_broken : (a : List ℕ) (j i : ℕ) (k : ClauseKind) (c : List ℤ) (b : Bool) → k ≡ Soft i → b ≡ satisfied_by a c → broken_as a j k c ≡ (eqb i j && not b)
-soft_broken a j i k c b e s = ap (λ x. broken_as a j x c) e ∙ ap (λ x. eqb i j && not x) (sym s)

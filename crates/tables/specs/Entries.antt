@@ -1,5 +1,5 @@
 -- The clauses of a table in their order, each with its kind.
-use Rattle.std.specs.Prelude.{ℕ, suc, ◌+◌, ◌≤◌, Bool, true, ◌&&◌, List, [], ◌∷◌, ◌++◌, take, drop, ℤ, ◌==◌}
+use Rattle.std.specs.Prelude.{ℕ, suc, ◌+◌, ◌≤◌, Bool, true, false, ◌&&◌, List, [], ◌∷◌, ◌++◌, take, drop, ℤ, ◌==◌}
 use Rattle.terms.specs.Clauses.{satisfied_by}
 use Rattle.tables.specs.declared.records.Clause.{Clause}
 use Rattle.tables.specs.declared.records.ClauseKind.{ClauseKind}
@@ -9,6 +9,10 @@ use Rattle.tables.specs.declared.records.ClauseRecord.{ClauseRecord}
 pub record Entry : Type 0 where
   pub kind : ClauseKind
   pub clause : List ℤ
+
+abbrev pub is_soft : ClauseKind → Bool
+is_soft Hard = false
+is_soft (Soft k) = true
 
 abbrev pub blank : ClauseRecord
 blank = record { place = 0; size = 0; kind = Hard }

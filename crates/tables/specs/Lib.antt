@@ -4,3 +4,4 @@ pub mod Entries
 pub mod Table
 pub mod Tables
 pub mod Trying
+pub mod CountThrough

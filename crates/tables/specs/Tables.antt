@@ -1,5 +1,5 @@
 -- What the tables of a finder hold, and what is always so of that.
-use Rattle.std.specs.Prelude.{◌≡◌, ℕ, ◌+◌, ◌-◌, ◌≤◌, true, false, List, map, length, All}
+use Rattle.std.specs.Prelude.{◌≡◌, ◌+◌, ◌-◌, ◌≤◌, false, IsTrue, map, length, All}
 use Rattle.terms.specs.Clauses.{bad_literal}
 use Rattle.finders.specs.Meanings.{Limited}
 use Rattle.tables.specs.Entries.{entry, softs, numbered, LiesWithin}
@@ -24,7 +24,7 @@ pub record Valid (t : Inside) : Type 0 where
   -- each literal in use is one of the n variables'
   pub proper : All (λ l. bad_literal t.n l ≡ false) t.literals.items
   -- soft clauses have their numbers in order
-  pub numbered : numbered 0 (table_of t).entries ≡ true
+  pub numbered : IsTrue (numbered 0 (table_of t).entries)
   -- there are as many soft clauses as were counted, and no more than can be
   pub counted : length (softs (table_of t).entries) ≡ t.softs
   pub fitting : t.softs ≤ t.limit

@@ -24,6 +24,8 @@ pub struct CountThrough<'a> {
 }
 
 impl<'a> CountThrough<'a> {
+    ghost use Rattle.tables.specs.CountThrough.{finder_meaning};
+
     /// Refuses more than 16 variables.
     pub fn check(n: usize) -> Result<(), Refusal>
         ensures { told result ≡ variables_refused 16 n }
@@ -34,7 +36,7 @@ impl<'a> CountThrough<'a> {
     /// A finder that admits every assignment. The lengths of the tables are its places.
     /// With more than 16 variables it has no variables and no places.
     pub fn new(records: &'a mut [ClauseRecord], literals: &'a mut [i32], n: usize) -> Self
-        ensures { meaning_of result.tables ≡ made_in (room 16 n) (length records.old) (length literals.old) }
+        ensures { finder_meaning result ≡ made_in (room 16 n) (length records.old) (length literals.old) }
     {
         CountThrough {
             tables: Tables::new(records, literals, n, 16),
@@ -43,8 +45,8 @@ impl<'a> CountThrough<'a> {
 
     /// The answer to a question that is not refused. At a core the buffer is not touched.
     fn try_all(&self, set: SoftSet, buffer: &mut [u8]) -> Answer
-        requires { ask_refused (meaning_of self.now.tables) (mask set) buffer.old ≡ None }
-        ensures { Asked (meaning_of self.now.tables) (mask set) buffer.old (Ok result) buffer.new }
+        requires { ask_refused (finder_meaning self.now) (mask set) buffer.old ≡ None }
+        ensures { Asked (finder_meaning self.now) (mask set) buffer.old (Ok result) buffer.new }
     {
         match self.first_model(set) {
             Some(number) => {
@@ -58,14 +60,14 @@ impl<'a> CountThrough<'a> {
 
     /// The number of the first assignment that is a model, if one is.
     fn first_model(&self, set: SoftSet) -> Option<u32>
-        ensures { Found (meaning_of self.now.tables) (mask set) result }
+        ensures { Found (finder_meaning self.now) (mask set) result }
     {
         (0..1 << self.tables.variables()).find(|number| self.is_model(set, *number))
     }
 
     /// Whether the assignment with this number is a model.
     fn is_model(&self, set: SoftSet, number: u32) -> bool
-        ensures { IsTrue result ↔ Meets (meaning_of self.now.tables) (mask set) (digits self.now.tables.n number) }
+        ensures { IsTrue result ↔ Meets (finder_meaning self.now) (mask set) (digits (finder_meaning self.now).n number) }
     {
         let mut values = [0; 16];
         let trial = &mut values[..self.tables.variables()];
@@ -74,8 +76,10 @@ impl<'a> CountThrough<'a> {
     }
 }
 
-impl<'a> Finder for CountThrough<'a> {
-    ghost meaning = { λ x. meaning_of x.tables };
+impl Finder for CountThrough<'_> {
+    ghost use Rattle.tables.specs.CountThrough.{finder_meaning};
+
+    ghost meaning = { finder_meaning };
 
     ghost limited = { λ x. x.limited };
 

@@ -1,7 +1,7 @@
 //! How a clause stands in the tables, and how they show it.
-ghost use Rattle.std.specs.Prelude.{◌≡◌};
+ghost use Rattle.std.specs.Prelude.{◌≡◌, ◌≤◌};
 ghost use Rattle.terms.specs.Sets.{mask};
-ghost use Rattle.tables.specs.Entries.{blank};
+ghost use Rattle.tables.specs.Entries.{blank, is_soft, softs_after};
 ghost use Rattle.tables.specs.Trying.{wanted, met};
 
 use terms::{SoftSet, satisfies};
@@ -14,6 +14,24 @@ pub enum ClauseKind {
 }
 
 impl ClauseKind {
+    /// Whether a clause of this kind is soft.
+    pub(crate) fn is_soft(self) -> bool
+        ensures { result ≡ is_soft self }
+    {
+        matches!(self, ClauseKind::Soft(_))
+    }
+
+    /// How many soft clauses there are with one clause more, of this kind.
+    pub(crate) fn softs_after(self, softs: usize) -> usize
+        requires { softs ≤ 64 }
+        ensures { result ≡ softs_after softs self }
+    {
+        match self {
+            ClauseKind::Hard => softs,
+            ClauseKind::Soft(_) => softs + 1,
+        }
+    }
+
     /// Whether a model for the set has to satisfy a clause of this kind.
     fn is_wanted(self, set: SoftSet) -> bool
         ensures { result ≡ wanted (mask set) self }

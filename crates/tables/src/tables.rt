@@ -1,17 +1,16 @@
 //! The clauses of a finder in two lent tables: making these, adding to them and reading them.
-ghost use Rattle.std.specs.Prelude.{◌≡◌, ◌↔◌, IsTrue, ℕ, ◌+◌, ◌≤◌, true, ◌∷◌, [], ◌++◌, length, None};
+ghost use Rattle.std.specs.Prelude.{◌≡◌, ◌↔◌, IsTrue, ℕ, ◌≤◌, length, None};
 ghost use Rattle.terms.specs.Clauses.{breaks};
 ghost use Rattle.terms.specs.Masks.{member};
 ghost use Rattle.terms.specs.Refusals.{told, unless_refused};
 ghost use Rattle.terms.specs.Sets.{mask};
 ghost use Rattle.finders.specs.Meanings.{Limited};
 ghost use Rattle.finders.specs.Questions.{ToldBroken};
-ghost use Rattle.finders.specs.Refused.{no_place, ask_refused, broken_refused};
-ghost use Rattle.tables.specs.Entries.{softs, softs_after, numbered, well_numbered};
-ghost use Rattle.tables.specs.Table.{meaning_of, made_in, lacks_soft_place, refused_as, with_clause, with_entry};
+ghost use Rattle.finders.specs.Refused.{ask_refused, broken_refused};
+ghost use Rattle.tables.specs.Entries.{softs, numbered, well_numbered};
+ghost use Rattle.tables.specs.Table.{meaning_of, made_in, refused_as, with_clause, with_entry};
 ghost use Rattle.tables.specs.Room.{room};
 ghost use Rattle.tables.specs.Trying.{Meets};
-ghost use Rattle.tables.specs.declared.records.ClauseKind.TheVariants.{Soft};
 
 use crate::clauses::Clauses;
 use crate::lent::Lent;
@@ -71,7 +70,7 @@ impl<'a> Tables<'a> {
 
     /// The kind of the next soft clause.
     pub(crate) fn next_soft(&self) -> ClauseKind
-        ensures { result ≡ Soft (length (softs self.now.entries)) }
+        ensures { result ≡ ClauseKind.Soft (length (softs self.now.entries)) }
     {
         ClauseKind::Soft(self.softs as u8)
     }
@@ -84,36 +83,19 @@ impl<'a> Tables<'a> {
             Err(Refusal::ClauseTooLong)
         } else if first_bad_literal(clause, self.n).is_some() {
             Err(Refusal::BadLiteral)
-        } else if self.lacks_soft_place(kind) {
+        } else if kind.is_soft() && self.softs == self.limit {
             Err(Refusal::NoSoftPlace(Part::Finder))
-        } else if self.is_full(clause) {
+        } else if self.records.free() == 0 || self.literals.free() < clause.len() {
             Err(Refusal::NoClausePlace)
         } else {
             Ok(())
         }
     }
 
-    /// Whether the clause is soft, and there is no place for one more of these.
-    fn lacks_soft_place(&self, kind: ClauseKind) -> bool
-        ensures { result ≡ lacks_soft_place kind (meaning_of self.now) }
-    {
-        match kind {
-            ClauseKind::Hard => false,
-            ClauseKind::Soft(_) => self.softs == self.limit,
-        }
-    }
-
-    /// Whether there is no place for one clause more, or for its literals.
-    fn is_full(&self, clause: &[i32]) -> bool
-        ensures { result ≡ no_place (meaning_of self.now) clause.now }
-    {
-        self.records.free() == 0 || self.literals.free() < clause.len()
-    }
-
     /// Adds the clause behind the others.
     #[tactic(auto, using(crate::proofs::Pushed::means_with_clause, crate::proofs::Pushed::limited_push))]
     pub(crate) fn add(&mut self, kind: ClauseKind, clause: &[i32]) -> Result<(), Refusal>
-        requires { well_numbered (length (softs self.old.entries)) kind ≡ true }
+        requires { IsTrue (well_numbered (length (softs self.old.entries)) kind) }
         ensures refusal { told result ≡ refused_as kind (meaning_of self.old) clause.now }
         ensures meaning { meaning_of self.new ≡ unless_refused (told result) (with_clause kind (meaning_of self.old) clause.now) (meaning_of self.old) }
         ensures limited { Limited (meaning_of self.new) }
@@ -127,7 +109,7 @@ impl<'a> Tables<'a> {
     /// Writes the clause behind the others.
     fn push(&mut self, kind: ClauseKind, clause: &[i32])
         requires fine { refused_as kind (meaning_of self.old) clause.now ≡ None }
-        requires number { well_numbered (length (softs self.old.entries)) kind ≡ true }
+        requires number { IsTrue (well_numbered (length (softs self.old.entries)) kind) }
         ensures { self.new ≡ with_entry self.old (record { kind = kind; clause = clause.now }) }
     {
         self.records.push(ClauseRecord {
@@ -136,7 +118,7 @@ impl<'a> Tables<'a> {
             kind,
         });
         self.literals.extend(clause);
-        self.softs = softs_with(self.softs, kind);
+        self.softs = kind.softs_after(self.softs);
     }
 
     /// The number of variables.
@@ -156,7 +138,7 @@ impl<'a> Tables<'a> {
     /// The clauses in the order in which they were added.
     pub(crate) fn clauses(&self) -> Clauses<'_>
         ensures clauses { result ≡ self.now.entries }
-        ensures numbered { numbered 0 self.now.entries ≡ true }
+        ensures numbered { IsTrue (numbered 0 self.now.entries) }
         ensures limited { Limited (meaning_of self.now) }
     {
         Clauses::new(self.records.items(), self.literals.items())
@@ -187,21 +169,11 @@ impl<'a> Tables<'a> {
         ensures refusal { told result ≡ broken_refused (meaning_of self.now) assignment.now }
         ensures answer { ToldBroken (meaning_of self.now) assignment.now result }
     {
-        self.check_assignment(assignment)?;
-        Ok(self.broken_by(&assignment[..self.n]))
-    }
-
-    /// Refuses what does not begin with an assignment of the n variables.
-    fn check_assignment(&self, assignment: &[u8]) -> Result<(), Refusal>
-        ensures { told result ≡ broken_refused (meaning_of self.now) assignment.now }
-    {
-        if assignment.len() < self.n {
-            Err(Refusal::TooShort)
-        } else if !is_binary(&assignment[..self.n]) {
-            Err(Refusal::BadByte)
-        } else {
-            Ok(())
+        let assignment = assignment.get(..self.n).ok_or(Refusal::TooShort)?;
+        if !is_binary(assignment) {
+            return Err(Refusal::BadByte);
         }
+        Ok(self.broken_by(assignment))
     }
 
     /// Which soft clauses the assignment breaks.
@@ -217,16 +189,5 @@ impl<'a> Tables<'a> {
             }
         }
         broken
-    }
-}
-
-/// How many soft clauses there are with one more clause.
-fn softs_with(softs: usize, kind: ClauseKind) -> usize
-    requires { softs ≤ 64 }
-    ensures { result ≡ softs_after softs kind }
-{
-    match kind {
-        ClauseKind::Hard => softs,
-        ClauseKind::Soft(_) => softs + 1,
     }
 }

@@ -1,10 +1,9 @@
-use Rattle.std.proofs.Common.{◌≡◌, ℕ, ◌+◌, ◌-◌, ◌≤◌, true, false, List, ◌∷◌, [], ◌++◌, All, map, length, pos, ℤ, None, sym, ap, ◌∙◌, subst, arith}
+use Rattle.std.proofs.Common.{◌≡◌, ◌+◌, ◌-◌, ◌≤◌, true, false, List, All, map, length, pos, ℤ, None, sym, ap, ◌∙◌, subst, arith}
 use Rattle.std.proofs.lemmas.List.{length-append}
 use Rattle.std.proofs.lemmas.List.Elements.{All-append, All-from_get_or}
 use Rattle.terms.specs.Clauses.{bad_literal}
-use Rattle.tables.specs.Entries.{Entry, entry, softs, numbered, well_numbered, softs_after, LiesWithin}
+use Rattle.tables.specs.Entries.{Entry, entry, softs, numbered, well_numbered, softs_after}
 use Rattle.tables.specs.Table.{Table, meaning_of, refused_as, with_entry}
-use Rattle.tables.specs.Tables.{table_of}
 use Rattle.tables.proofs.Pushed.{Accepted, accepted, entries_push, inside_push, numbered_push, softs_push, counted_push}
 use Rattle.tables.proofs.tables.Tables.push.Goals as goal
 
@@ -29,8 +28,8 @@ invariant_of-self c =
     let long = ap length c.extend.ensures.items ∙ length-append t.literals.items xs in
     let held = entries_push t.records.items t.literals.items xs k v.inside start c.push.ensures.items c.extend.ensures.items in
     let count = counted_push k t.softs t.limit known.0.soft_place v.fitting in
-    let more = ap (λ s. length (softs s)) held ∙ softs_push es e ∙ ap (λ s. softs_after s k) v.counted ∙ sym c.softs_with-self-inside.ensures in
-    let fitting : c.softs_with-self-inside.result ≤ t.limit = subst (λ s. s ≤ t.limit) (sym c.softs_with-self-inside.ensures) count.1 in
+    let more = ap (λ s. length (softs s)) held ∙ softs_push es e ∙ ap (λ s. softs_after s k) v.counted ∙ sym c.softs_after-self-inside.ensures in
+    let fitting : c.softs_after-self-inside.result ≤ t.limit = subst (λ s. s ≤ t.limit) (sym c.softs_after-self-inside.ensures) count.1 in
     record {
       limited = (v.limited.0, omega (arith, more, fitting, v.limited.1, v.counted, v.fitting));
       roomy = omega (arith, long);
@@ -49,7 +48,7 @@ returns c =
     let xs = c.args.clause.now in
     let held = entries_push t.records.items t.literals.items xs k c.self.invariant.inside (ap length c.items.ensures) c.push.ensures.items c.extend.ensures.items in
     let known = accepted_by k xs c.self.view_is c.requires.fine c.requires.number in
-    let softs_left = ap (λ s. t.limit - s) c.softs_with-self-inside.ensures ∙ (counted_push k t.softs t.limit known.0.soft_place c.self.invariant.fitting).0 in
+    let softs_left = ap (λ s. t.limit - s) c.softs_after-self-inside.ensures ∙ (counted_push k t.softs t.limit known.0.soft_place c.self.invariant.fitting).0 in
     let clauses_left : c.push.new.self.free ≡ t.records.free - 1 = omega arith in
     let literals_left : c.extend.new.self.free ≡ t.literals.free - length xs = omega arith in
     (λ j. record { n = t.n; entries = held j; free_softs = softs_left j; free_clauses = clauses_left j; free_literals = literals_left j })
