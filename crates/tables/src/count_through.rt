@@ -121,6 +121,7 @@ impl Finder for CountThrough<'_> {
 }
 
 /// Fills the bytes with the binary digits of a number, lowest first.
+#[tactic(auto, using(crate::proofs::Digits::digit_written))]
 fn write_digits(bytes: &mut [u8], number: u32)
     ensures { bytes.new ≡ digits (length bytes.old) number }
 {

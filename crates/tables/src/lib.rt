@@ -21,10 +21,7 @@ mod tests {
 
     // The number of a refusal, 0 for none.
     fn number(refusal: Option<Refusal>) -> u8 {
-        match refusal {
-            Some(refusal) => refusal.number(),
-            None => 0,
-        }
+        refusal.map_or(0, |refusal| refusal.number())
     }
 
     #[test]

@@ -177,6 +177,7 @@ impl<'a> Tables<'a> {
     }
 
     /// Which soft clauses the assignment breaks.
+    #[tactic(auto, using(crate::proofs::Breaking::broken_is, terms::proofs::ClauseLaws::all_fit))]
     fn broken_by(&self, assignment: &[u8]) -> SoftSet
         ensures { (k : ℕ) → member (mask result) k ≡ breaks assignment.now (meaning_of self.now).softs k }
     {
