@@ -57,6 +57,7 @@ broken_at s (e ∷ es) a k h =
         let further : s + suc k ≡ suc s + k = omega arith in
         ap₂ (λ x y. (x && not (satisfied_by a e.clause)) || y) (ne_eqb i (s + suc k) (λ z. omega arith)) (ap (broken_in es a) further ∙ ih k)
         ∙ sym (breaks-suc a e.clause (softs es) k)
+
     by_kind : (x : ClauseKind) → (well_numbered s x ≡ true) × (numbered (softs_after s x) es ≡ true)
         → ((t j : ℕ) → numbered t es ≡ true → broken_in es a (t + j) ≡ breaks a (softs es) j)
         → (broken_as a (s + k) x e.clause || broken_in es a (s + k)) ≡ breaks a (soft_part x e.clause ++ softs es) k

@@ -49,9 +49,9 @@ decided s set a (e ∷ es) n =
         → Decides (met set a x e.clause && all_met set a es) (Unbroken s set a (hard_part x e.clause ++ hards es) (soft_part x e.clause ++ softs es))
     by_kind Hard w ih = (
       (λ m. let p = and_parts (satisfied_by a e.clause) (all_met set a es) m in
-      let u = (ih s w.1).0 p.1 in (and_from (satisfied_by a e.clause) (satisfied_all (hards es) a) p.0 u.0, u.1)),
+          let u = (ih s w.1).0 p.1 in (and_from (satisfied_by a e.clause) (satisfied_all (hards es) a) p.0 u.0, u.1)),
       (λ u. let p = and_parts (satisfied_by a e.clause) (satisfied_all (hards es) a) u.0 in
-      and_from (satisfied_by a e.clause) (all_met set a es) p.0 ((ih s w.1).1 (p.1, u.1))),
+          and_from (satisfied_by a e.clause) (all_met set a es) p.0 ((ih s w.1).1 (p.1, u.1))),
     )
     by_kind (Soft i) w ih =
         let same = eqb-true i s w.0 in

@@ -7,7 +7,7 @@ use crate::records::{Clause, ClauseRecord};
 use std::marker::Model;
 
 /// The clauses that are left of those with these records.
-#[derive(Drop)]
+#[derive(Debug, Drop)]
 pub struct Clauses<'a> {
     records: &'a [ClauseRecord],
     literals: &'a [i32],

@@ -16,7 +16,7 @@ use finders::{Answer, Finder};
 use terms::{Refusal, SoftSet};
 
 /// Finds a model by trying every assignment, for up to 16 variables.
-#[derive(Drop)]
+#[derive(Debug, Drop)]
 pub struct CountThrough<'a> {
     tables: Tables<'a>,
     ghost few: { tables.n ≤ 16 },

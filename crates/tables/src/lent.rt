@@ -4,7 +4,7 @@ ghost use Rattle.std.specs.Prelude.{◌≡◌, ◌+◌, ◌<◌, ◌≤◌, ◌+
 use std::marker::Model;
 
 /// Places that the caller lends, of which the first ones are in use.
-#[derive(Drop)]
+#[derive(Debug, Drop)]
 pub struct Lent<'a, T> {
     places: &'a mut [T],
     used: usize,

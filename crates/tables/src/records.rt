@@ -65,7 +65,7 @@ impl ClauseRecord {
 }
 
 /// A clause as the tables show it.
-#[derive(Clone, Copy)]
+#[derive(Clone, Copy, PartialEq, Eq, Debug)]
 pub struct Clause<'a> {
     pub kind: ClauseKind,
     pub literals: &'a [i32],

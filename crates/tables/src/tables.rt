@@ -20,7 +20,7 @@ use std::marker::Model;
 use terms::{Part, Refusal, SoftSet, first_bad_literal, is_binary, satisfies};
 
 /// The records of the clauses, and their literals one clause after another.
-#[derive(Drop)]
+#[derive(Debug, Drop)]
 pub struct Tables<'a> {
     records: Lent<'a, ClauseRecord>,
     literals: Lent<'a, i32>,

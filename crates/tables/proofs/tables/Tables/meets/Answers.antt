@@ -14,6 +14,8 @@ returns c =
     let a = c.args.assignment.now in
     let es = c.args.self.now.entries in
     let set = mask c.args.set in
-    let cases = cases_from_all _ _ c.all.result (λ (e : Entry). met set a e.kind e.clause ≡ true) (λ (e : Entry). met set a e.kind e.clause ≡ false) c.all.ensures.ran
-    (YieldsList-from_first as_entry (λ rest. rest) es c.clauses.ensures.clauses) (λ x q k. search (rules, tests)) (λ x q k. search (rules, tests)) in
-    Decides-at c.all.result (all_met set a es) (all_met_from_cases set a es c.all.result cases) (met_decides set a es c.clauses.ensures.numbered)
+    Decides-at c.all.result (all_met set a es)
+    (all_met_from_cases set a es c.all.result
+    (cases_from_all _ _ c.all.result (λ (e : Entry). met set a e.kind e.clause ≡ true) (λ (e : Entry). met set a e.kind e.clause ≡ false) c.all.ensures.ran
+    (YieldsList-from_first as_entry (λ rest. rest) es c.clauses.ensures.clauses) (λ x q k. search (rules, tests)) (λ x q k. search (rules, tests))))
+    (met_decides set a es c.clauses.ensures.numbered)
