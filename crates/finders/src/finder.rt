@@ -21,8 +21,6 @@ pub enum Answer {
 pub trait Finder {
     ghost meaning: { Self → FinderMeaning };
 
-    ghost limited: { (x : Self) → Limited (meaning x) };
-
     /// The number of variables.
     fn variables(&self) -> usize
         ensures { result ≡ (meaning self.now).n };
@@ -59,4 +57,6 @@ pub trait Finder {
     fn broken(&self, assignment: &[u8]) -> Result<SoftSet, Refusal>
         ensures refusal { told result ≡ broken_refused (meaning self.now) assignment.now }
         ensures answer { ToldBroken (meaning self.now) assignment.now result };
+
+    ghost limited: { (x : Self) → Limited (meaning x) };
 }

@@ -1,6 +1,6 @@
 -- Which soft clauses an assignment breaks, clause by clause through the tables.
-use Rattle.std.proofs.Common.{◌≡◌, ℕ, suc, ◌-◌, ◌<◌, ◌≤◌, Bool, true, false, not, ◌&&◌, ◌||◌, eqb, ltb, leb, List, [], ◌∷◌, ◌++◌, length, get_or, ℤ, sym, refl, ap, ◌∙◌, ap₂, ⊎_elim, arith}
-use Rattle.std.proofs.lemmas.Bool.{cases_lt, and_parts, and_left, and_right, eq-eqb, ne_eqb, eqb-true, lt-ltb, le-ltb, le-leb, lt-leb}
+use Rattle.std.proofs.Common.{◌≡◌, ℕ, zero, suc, ◌+◌, ◌<◌, Bool, true, false, not, ◌&&◌, ◌||◌, eqb, ltb, List, [], ◌∷◌, ◌++◌, length, get_or, ℤ, sym, refl, ap, ◌∙◌, ap₂, arith}
+use Rattle.std.proofs.lemmas.Bool.{and_parts, and_left, or_from, eq-eqb, ne_eqb, eqb-true, lt-ltb, le-ltb}
 use Rattle.std.proofs.lemmas.Bool.Decides.{nat_tests}
 use Rattle.terms.specs.Clauses.{satisfied_by, breaks}
 use Rattle.tables.specs.Entries.{Entry, softs, soft_part, numbered, well_numbered, softs_after}
@@ -16,67 +16,53 @@ abbrev pub broken_in : List Entry → List ℕ → ℕ → Bool
 broken_in [] a j = false
 broken_in (e ∷ es) a j = broken_as a j e.kind e.clause || broken_in es a j
 
-breaks_first : (a : List ℕ) (c : List ℤ) (cs : List (List ℤ)) → breaks a (c ∷ cs) 0 ≡ not (satisfied_by a c)
-breaks_first a c cs = ap (λ b. b && not (satisfied_by a c)) (lt-ltb 0 (suc (length cs)) (omega arith))
+-- ---- an assignment breaks the first clause, or one of the others
+pub breaks-nil : (a : List ℕ) (k : ℕ) → breaks a [] k ≡ false
+breaks-nil a k = and_left (ltb k 0) _ (le-ltb k 0 (omega arith))
 
-breaks_next : (a : List ℕ) (c : List ℤ) (cs : List (List ℤ)) (k : ℕ) → breaks a (c ∷ cs) (suc k) ≡ breaks a cs k
-breaks_next a c cs k = ap (λ b. b && not (satisfied_by a (get_or cs k []))) (let e : ltb (suc k) (suc (length cs)) ≡ ltb k (length cs) = grind (arith, nat_tests) in e)
+pub breaks-zero : (a : List ℕ) (c : List ℤ) (cs : List (List ℤ)) → breaks a (c ∷ cs) 0 ≡ not (satisfied_by a c)
+breaks-zero a c cs = ap (λ b. b && not (satisfied_by a c)) (lt-ltb 0 (suc (length cs)) (omega arith))
 
--- where the numbers begin with s, the first clause has that number and the others come after it
-first_broken : (a : List ℕ) (c : List ℤ) (cs : List (List ℤ)) (s j : ℕ) (b : Bool) → b ≡ (leb (suc s) j && breaks a cs (j - suc s))
-    → ((eqb s j && not (satisfied_by a c)) || b) ≡ (leb s j && breaks a (c ∷ cs) (j - s))
-first_broken a c cs s j b e =
-    ⊎_elim
-    (λ (l : j < s).
-    ap₂ (λ x y. (x && not (satisfied_by a c)) || y) (ne_eqb s j (λ z. omega arith)) (e ∙ ap (λ x. x && breaks a cs (j - suc s)) (lt-leb (suc s) j (omega arith)))
-    ∙ sym (ap (λ x. x && breaks a (c ∷ cs) (j - s)) (lt-leb s j l)))
-    (λ (g : s ≤ j). ⊎_elim
-    (λ (l : s < j).
-    let k : j - s ≡ suc (j - suc s) = omega arith in
-    ap₂ (λ x y. (x && not (satisfied_by a c)) || y) (ne_eqb s j (λ z. omega arith)) (e ∙ ap (λ x. x && breaks a cs (j - suc s)) (le-leb (suc s) j (omega arith)))
-    ∙ sym (ap₂ (λ x i. x && breaks a (c ∷ cs) i) (le-leb s j g) k ∙ breaks_next a c cs (j - suc s)))
-    (λ (l : j ≤ s).
-    let k : j - s ≡ 0 = omega arith in
-    ap₂ (λ x y. (x && not (satisfied_by a c)) || y) (eq-eqb s j (omega arith)) (e ∙ ap (λ x. x && breaks a cs (j - suc s)) (lt-leb (suc s) j (omega arith)))
-    ∙ or_false (not (satisfied_by a c))
-    ∙ sym (ap₂ (λ x i. x && breaks a (c ∷ cs) i) (le-leb s j g) k ∙ breaks_first a c cs))
-    (cases_lt s j))
-    (cases_lt j s)
-  where
-    or_false : (x : Bool) → (x || false) ≡ x
-    or_false true = refl
-    or_false false = refl
+pub breaks-suc : (a : List ℕ) (c : List ℤ) (cs : List (List ℤ)) (k : ℕ) → breaks a (c ∷ cs) (suc k) ≡ breaks a cs k
+breaks-suc a c cs k = ap (λ b. b && not (satisfied_by a (get_or cs k []))) (let e : ltb (suc k) (suc (length cs)) ≡ ltb k (length cs) = grind (arith, nat_tests) in e)
 
-broken_numbered : (s : ℕ) (es : List Entry) (a : List ℕ) (j : ℕ) → numbered s es ≡ true → broken_in es a j ≡ (leb s j && breaks a (softs es) (j - s))
-broken_numbered s [] a j h = sym (and_right (leb s j) (breaks a [] (j - s)) (and_left (ltb (j - s) 0) _ (le-ltb (j - s) 0 (omega arith))))
-broken_numbered s (e ∷ es) a j h = by_kind e.kind (and_parts (well_numbered s e.kind) (numbered (softs_after s e.kind) es) h) (λ t n. broken_numbered t es a j n)
+or-false : (x : Bool) → (x || false) ≡ x
+or-false true = refl
+or-false false = refl
+
+-- ---- where the numbers begin with s, none below s is broken, and number s + k is where the soft clause at k is
+none_below : (s : ℕ) (es : List Entry) (a : List ℕ) (j : ℕ) → numbered s es ≡ true → j < s → broken_in es a j ≡ false
+none_below s [] a j h l = refl
+none_below s (e ∷ es) a j h l =
+    by_kind e.kind (and_parts (well_numbered s e.kind) (numbered (softs_after s e.kind) es) h) (λ t. none_below t es a j)
   where
     by_kind : (k : ClauseKind) → (well_numbered s k ≡ true) × (numbered (softs_after s k) es ≡ true)
-        → ((t : ℕ) → numbered t es ≡ true → broken_in es a j ≡ (leb t j && breaks a (softs es) (j - t)))
-        → (broken_as a j k e.clause || broken_in es a j) ≡ (leb s j && breaks a (soft_part k e.clause ++ softs es) (j - s))
-    by_kind Hard w ih = ih s w.1
+        → ((t : ℕ) → numbered t es ≡ true → j < t → broken_in es a j ≡ false) → (broken_as a j k e.clause || broken_in es a j) ≡ false
+    by_kind Hard w ih = ih s w.1 l
     by_kind (Soft i) w ih =
-        ap (λ n. (eqb n j && not (satisfied_by a e.clause)) || broken_in es a j) (eqb-true i s w.0)
-        ∙ first_broken a e.clause (softs es) s j (broken_in es a j) (ih (suc s) w.1)
+        let other = ne_eqb i j (λ z. omega (arith, eqb-true i s w.0)) in
+        or_from (eqb i j && not (satisfied_by a e.clause)) (broken_in es a j) (and_left (eqb i j) _ other) (ih (suc s) w.1 (omega arith))
+
+broken_at : (s : ℕ) (es : List Entry) (a : List ℕ) (k : ℕ) → numbered s es ≡ true → broken_in es a (s + k) ≡ breaks a (softs es) k
+broken_at s [] a k h = sym (breaks-nil a k)
+broken_at s (e ∷ es) a k h =
+    by_kind e.kind (and_parts (well_numbered s e.kind) (numbered (softs_after s e.kind) es) h) (λ t j. broken_at t es a j)
+  where
+    by_place : (i k : ℕ) → i ≡ s → numbered (suc s) es ≡ true → ((j : ℕ) → broken_in es a (suc s + j) ≡ breaks a (softs es) j)
+        → ((eqb i (s + k) && not (satisfied_by a e.clause)) || broken_in es a (s + k)) ≡ breaks a (e.clause ∷ softs es) k
+    by_place i zero same n ih =
+        ap₂ (λ x y. (x && not (satisfied_by a e.clause)) || y) (eq-eqb i (s + 0) (omega arith)) (none_below (suc s) es a (s + 0) n (omega arith))
+        ∙ or-false (not (satisfied_by a e.clause)) ∙ sym (breaks-zero a e.clause (softs es))
+    by_place i (suc k) same n ih =
+        let further : s + suc k ≡ suc s + k = omega arith in
+        ap₂ (λ x y. (x && not (satisfied_by a e.clause)) || y) (ne_eqb i (s + suc k) (λ z. omega arith)) (ap (broken_in es a) further ∙ ih k)
+        ∙ sym (breaks-suc a e.clause (softs es) k)
+
+    by_kind : (x : ClauseKind) → (well_numbered s x ≡ true) × (numbered (softs_after s x) es ≡ true)
+        → ((t j : ℕ) → numbered t es ≡ true → broken_in es a (t + j) ≡ breaks a (softs es) j)
+        → (broken_as a (s + k) x e.clause || broken_in es a (s + k)) ≡ breaks a (soft_part x e.clause ++ softs es) k
+    by_kind Hard w ih = ih s k w.1
+    by_kind (Soft i) w ih = by_place i k (eqb-true i s w.0) w.1 (λ j. ih (suc s) j w.1)
 
 pub broken_is : (es : List Entry) (a : List ℕ) (j : ℕ) → numbered 0 es ≡ true → broken_in es a j ≡ breaks a (softs es) j
-broken_is es a j h =
-    broken_numbered 0 es a j h ∙ ap₂ (λ b i. b && breaks a (softs es) i) (le-leb 0 j (omega arith)) (let z : j - 0 ≡ j = omega arith in z)
-
--- ---- one clause further: q says whether number j is broken there, r whether it is among the clauses that follow, f whether it fits a set
-pub next_broken : (m m' q r f all : Bool) → m' ≡ (m || (q && f)) → (m || ((q || r) && f)) ≡ all → (m' || (r && f)) ≡ all
-next_broken m m' q r f all e inv = ap (λ x. x || (r && f)) e ∙ regroup m q r f ∙ inv
-  where
-    regroup : (m q r f : Bool) → ((m || (q && f)) || (r && f)) ≡ (m || ((q || r) && f))
-    regroup true q r f = refl
-    regroup false true r true = refl
-    regroup false true true false = refl
-    regroup false true false false = refl
-    regroup false false r f = refl
-
-pub not_broken : (m q f : Bool) → q ≡ false → m ≡ (m || (q && f))
-not_broken true q f e = refl
-not_broken false q f e = sym (ap (λ x. x && f) e)
-
-pub soft_broken : (a : List ℕ) (j i : ℕ) (k : ClauseKind) (c : List ℤ) (b : Bool) → k ≡ Soft i → b ≡ satisfied_by a c → broken_as a j k c ≡ (eqb i j && not b)
-soft_broken a j i k c b e s = ap (λ x. broken_as a j x c) e ∙ ap (λ x. eqb i j && not x) (sym s)
+broken_is es a j h = ap (broken_in es a) (let z : j ≡ 0 + j = omega arith in z) ∙ broken_at 0 es a j h

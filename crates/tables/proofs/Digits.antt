@@ -1,5 +1,6 @@
 -- The numbers below 2 ^ n are the assignments of n variables, by their binary digits.
-use Rattle.std.proofs.Common.{◌≡◌, ℕ, zero, suc, ◌+◌, ◌*◌, ◌/◌, ◌%◌, ◌^◌, ◌<◌, List, [], ◌∷◌, refl, ap, ◌∙◌, ap₂, mod-lt, zero-lt-suc, pow-suc, arith}
+use Rattle.std.proofs.Common.{◌≡◌, ℕ, zero, suc, ◌+◌, ◌-◌, ◌*◌, ◌/◌, ◌%◌, ◌^◌, ◌<◌, List, [], ◌∷◌, ◌++◌, length, take, set, sym, refl, ap, ◌∙◌, ap₂, mod-lt, zero-lt-suc, pow-suc, arith}
+use Rattle.std.proofs.lemmas.List.{take_more_set, length-set, append_assoc}
 use Rattle.std.proofs.lemmas.Bool.{and_from, and_parts, lt-ltb, ltb-true}
 use Rattle.terms.specs.Clauses.{Assignment, binary}
 use Rattle.tables.specs.Trying.{digits}
@@ -28,3 +29,13 @@ each_counted (suc n) (b ∷ a) h =
     let first : b ≡ j % 2 = omega arith in
     let rest : r.0 ≡ j / 2 = omega arith in
     (j, omega (arith, r.1), ap₂ (λ x y. x ∷ y) first (r.2 ∙ ap (digits n) rest))
+
+-- one digit more is written
+pub digit_written : (xs : List ℕ) (i j : ℕ) → i < length xs
+    → (take (i + 1) (set xs i (j % 2)) ++ digits (length (set xs i (j % 2)) - (i + 1)) (j / 2)) ≡ (take i xs ++ digits (length xs - i) j)
+digit_written xs i j l =
+    let fewer : length (set xs i (j % 2)) - (i + 1) ≡ length xs - suc i = simp length-set (omega arith) in
+    let some : length xs - i ≡ suc (length xs - suc i) = omega arith in
+    ap₂ (λ t m. t ++ digits m (j / 2)) (take_more_set xs i (j % 2) l) fewer
+    ∙ append_assoc (take i xs) (j % 2 ∷ []) (digits (length xs - suc i) (j / 2))
+    ∙ sym (ap (λ m. take i xs ++ digits m j) some)

@@ -1,5 +1,3 @@
-pub mod Held
-pub mod Pasted
 pub mod Pushed
 pub mod Breaking
 pub mod Meeting

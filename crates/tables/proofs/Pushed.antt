@@ -1,19 +1,20 @@
 -- What the tables hold and mean with one clause more.
-use Rattle.std.proofs.Common.{◌≡◌, ℕ, ◌+◌, ◌-◌, ◌<◌, ◌≤◌, Bool, true, false, ◌&&◌, eqb, ltb, ◌≢◌, List, [], ◌∷◌, ◌++◌, map, length, get_or, take, set, ℤ, None, sym, refl, ap, ◌∙◌, subst, ap₂, arith, below_more}
+use Rattle.std.proofs.Common.{◌≡◌, ℕ, ◌+◌, ◌-◌, ◌<◌, ◌≤◌, Bool, true, false, ◌&&◌, eqb, ltb, List, [], ◌∷◌, ◌++◌, map, length, take, drop, All, ℤ, None, sym, refl, ap, ◌∙◌, ap₂, arith}
 use mathlib.Core.Path.{fun_ext}
-use Rattle.std.proofs.lemmas.List.{take_more_set, map-append, append_assoc, append-nil, length-append, get_or-set_same, get_or-set_other}
+use Rattle.std.proofs.lemmas.List.{map-append, append_assoc, append-nil, length-append, length-drop, drop-append-le, take-append-le}
+use Rattle.std.proofs.lemmas.List.Elements.{All-head, All-tail, All-same, All-weaker, All-push}
+use Rattle.std.proofs.Math.Seq.{drop-append_seam, take-length}
 use Rattle.std.proofs.lemmas.Bool.{or_parts, and_from, and_parts, ltb-false, eqb-false}
 use Rattle.terms.specs.Clauses.{satisfied_by, FirstBad}
 use Rattle.terms.proofs.ClauseLaws.{all_good}
 use Rattle.terms.proofs.RefusalLaws.{passes}
-use Rattle.finders.specs.Meanings.{FinderMeaning}
+use Rattle.finders.specs.Meanings.{FinderMeaning, Limited}
 use Rattle.finders.specs.Refused.{too_long, has_bad, no_place}
-use Rattle.tables.specs.Entries.{Entry, entry, parts, hards, softs, hard_part, soft_part, satisfied_all, well_numbered, softs_after, numbered, blank}
-use Rattle.tables.specs.Tabled.{lacks_soft_place, refused_as, with_clause}
+use Rattle.tables.specs.Entries.{Entry, entry, parts, hards, softs, hard_part, soft_part, satisfied_all, well_numbered, softs_after, numbered, LiesWithin}
+use Rattle.tables.specs.Table.{Table, meaning_of, lacks_soft_place, refused_as, with_clause, with_entry}
 use Rattle.tables.specs.declared.records.ClauseKind.{ClauseKind}
 use Rattle.tables.specs.declared.records.ClauseKind.TheVariants.{Hard, Soft}
 use Rattle.tables.specs.declared.records.ClauseRecord.{ClauseRecord}
-use Rattle.tables.proofs.Pasted.{pasted, entry_new, entries_kept}
 
 -- ---- what an accepted clause is known to be
 pub record Accepted (k : ClauseKind) (m : FinderMeaning) (c : List ℤ) : Type 0 where
@@ -40,6 +41,39 @@ accepted k m c e =
       literals = ltb-false m.free_literals (length c) room.1;
       soft_place = soft_room k m soft.0;
     }
+
+-- ---- the clauses with the literals of one more behind those in use
+-- a clause within the literals in use reads as before
+entry_kept : (ls xs : List ℤ) (r : ClauseRecord) → LiesWithin (length ls) r → entry (ls ++ xs) r ≡ entry ls r
+entry_kept ls xs r h =
+    let start : r.place ≤ length ls = omega arith in
+    let rest : r.size ≤ length (drop r.place ls) = simp length-drop (omega arith) in
+    ap (λ c. record { kind = r.kind; clause = c }) (ap (take r.size) (drop-append-le r.place ls xs start) ∙ take-append-le r.size (drop r.place ls) xs rest)
+
+entries_kept : (rs : List ClauseRecord) (ls xs : List ℤ) → All (LiesWithin (length ls)) rs → map (entry (ls ++ xs)) rs ≡ map (entry ls) rs
+entries_kept [] ls xs h = refl
+entries_kept (r ∷ rs) ls xs h =
+    ap₂ (λ e es. e ∷ es) (entry_kept ls xs r (All-head (LiesWithin (length ls)) r rs h)) (entries_kept rs ls xs (All-tail (LiesWithin (length ls)) r rs h))
+
+-- the clause that was written reads as it was
+entry_new : (ls xs : List ℤ) (k : ClauseKind) → entry (ls ++ xs) (record { place = length ls; size = length xs; kind = k }) ≡ record { kind = k; clause = xs }
+entry_new ls xs k = ap (λ c. record { kind = k; clause = c }) (ap (take (length xs)) (drop-append_seam ls xs) ∙ take-length xs)
+
+pub entries_push : (rs : List ClauseRecord) {rs' : List ClauseRecord} (ls : List ℤ) {ls' : List ℤ} (xs : List ℤ) (k : ClauseKind) {n : ℕ}
+    → All (LiesWithin (length ls)) rs → n ≡ length ls → rs' ≡ rs ++ (record { place = n; size = length xs; kind = k } ∷ []) → ls' ≡ ls ++ xs
+    → map (entry ls') rs' ≡ map (entry ls) rs ++ (record { kind = k; clause = xs } ∷ [])
+entries_push rs ls xs k {n} inside start e f =
+    ap₂ (λ ns ts. map (entry ns) ts) f e
+    ∙ map-append (entry (ls ++ xs)) rs (record { place = n; size = length xs; kind = k } ∷ [])
+    ∙ ap₂ (λ es x. es ++ x ∷ []) (entries_kept rs ls xs inside)
+    (ap (λ n. entry (ls ++ xs) (record { place = n; size = length xs; kind = k })) start ∙ entry_new ls xs k)
+
+-- the records with one more that lies within the longer literals
+pub inside_push : (rs : List ClauseRecord) {rs' : List ClauseRecord} (f g : ℕ) (r : ClauseRecord)
+    → All (LiesWithin f) rs → f ≤ g → LiesWithin g r → rs' ≡ rs ++ r ∷ [] → All (LiesWithin g) rs'
+inside_push rs f g r inside longer one e =
+    let more : (x : ClauseRecord) → LiesWithin f x → LiesWithin g x = λ (x : ClauseRecord) l. omega (arith, l) in
+    All-same (LiesWithin g) _ _ e (All-push (LiesWithin g) rs r (All-weaker (LiesWithin f) (LiesWithin g) more rs inside) one)
 
 -- ---- lists of clauses with one more at the end
 parts_push : (f : ClauseKind → List ℤ → List (List ℤ)) (es : List Entry) (e : Entry) → parts f (es ++ e ∷ []) ≡ parts f es ++ f e.kind e.clause
@@ -78,60 +112,38 @@ numbered_push s (x ∷ es) e h w =
     further Hard = refl
     further (Soft i) = omega arith
 
--- ---- the tables with the clause written behind the others
-module _ (rs : List ClauseRecord) (used : ℕ) (ls : List ℤ) (a : ℕ) (xs : List ℤ) (k : ClauseKind)
-    (room : a ≤ length ls) (free : used < length rs) (inside : (i : ℕ) → i < used → (get_or rs i blank).place + (get_or rs i blank).size ≤ a) where
-  pub held_push : (ls' : List ℤ) → ls' ≡ pasted ls a xs
-      → map (entry ls') (take (used + 1) (set rs used (record { place = a; size = length xs; kind = k })))
-      ≡ map (entry ls) (take used rs) ++ (record { kind = k; clause = xs } ∷ [])
-  held_push ls' e =
-      ap₂ (λ t us. map (entry t) us) e (take_more_set rs used (record { place = a; size = length xs; kind = k }) free)
-      ∙ map-append (entry (pasted ls a xs)) (take used rs) (record { place = a; size = length xs; kind = k } ∷ [])
-      ∙ ap₂ (λ es e. es ++ e ∷ []) (entries_kept rs used ls a xs room inside) (entry_new ls a xs k room)
+pub counted_push : (k : ClauseKind) (s limit : ℕ) → softs_after 0 k ≤ limit - s → s ≤ limit → (limit - softs_after s k ≡ limit - s - softs_after 0 k) × (softs_after s k ≤ limit)
+counted_push Hard s limit h l = (omega arith, l)
+counted_push (Soft i) s limit h l = (omega arith, omega arith)
+
+pub limited_push : (t : Table) (k : ClauseKind) (xs : List ℤ) → Limited (meaning_of t) → refused_as k (meaning_of t) xs ≡ None
+    → Limited (meaning_of (with_entry t (record { kind = k; clause = xs })))
+limited_push t Hard xs l fine = (l.0, omega (arith, softs_push t.entries (record { kind = Hard; clause = xs }), l.1))
+limited_push t (Soft i) xs l fine = (l.0, omega (arith, softs_push t.entries (record { kind = Soft i; clause = xs }), l.1, (accepted (Soft i) (meaning_of t) xs fine).soft_place))
 
 -- ---- and what they mean
-abbrev tabled : ℕ → List Entry → ℕ → ℕ → ℕ → FinderMeaning
-tabled n es soft_places clause_places literal_places = record {
-  n = n;
-  admits = satisfied_all (hards es);
-  softs = softs es;
-  free_softs = soft_places;
-  free_clauses = clause_places;
-  free_literals = literal_places;
-}
-
-pub means_push : (n : ℕ) (es fs : List Entry) (k : ClauseKind) (xs : List ℤ) (s s' c c' l l' : ℕ) → fs ≡ es ++ (record { kind = k; clause = xs } ∷ [])
-    → s' ≡ s - softs_after 0 k → c' ≡ c - 1 → l' ≡ l - length xs → tabled n fs s' c' l' ≡ with_clause k (tabled n es s c l) xs
-means_push n es fs Hard xs s s' c c' l l' e se ce le =
-    let same : s' ≡ s = omega arith in
-    let hs = ap hards e ∙ parts_push hard_part es (record { kind = Hard; clause = xs }) in
-    let ss = ap softs e ∙ parts_push soft_part es (record { kind = Hard; clause = xs }) ∙ append-nil _ in
-    λ j. record {
-      n = n;
-      admits = fun_ext (λ a. ap (λ cs. satisfied_all cs a) hs ∙ satisfied_all-append (hards es) (xs ∷ []) a ∙ ap (λ b. satisfied_all (hards es) a && b) (and-true (satisfied_by a xs))) j;
+pub means_with_clause : (t : Table) (k : ClauseKind) (xs : List ℤ) → with_clause k (meaning_of t) xs ≡ meaning_of (with_entry t (record { kind = k; clause = xs }))
+means_with_clause t Hard xs =
+    let hs = parts_push hard_part t.entries (record { kind = Hard; clause = xs }) in
+    let ss = parts_push soft_part t.entries (record { kind = Hard; clause = xs }) ∙ append-nil _ in
+    let same : t.free_softs - 0 ≡ t.free_softs = omega arith in
+    sym (λ j. record {
+      n = t.n;
+      admits = fun_ext (λ a. ap (λ cs. satisfied_all cs a) hs ∙ satisfied_all-append (hards t.entries) (xs ∷ []) a
+          ∙ ap (λ b. satisfied_all (hards t.entries) a && b) (and-true (satisfied_by a xs))) j;
       softs = ss j;
       free_softs = same j;
-      free_clauses = ce j;
-      free_literals = le j;
-    }
-means_push n es fs (Soft i) xs s s' c c' l l' e se ce le =
-    let hs = ap hards e ∙ parts_push hard_part es (record { kind = Soft i; clause = xs }) ∙ append-nil _ in
-    let ss = ap softs e ∙ parts_push soft_part es (record { kind = Soft i; clause = xs }) in
-    λ j. record {
-      n = n;
+      free_clauses = t.free_clauses - 1;
+      free_literals = t.free_literals - length xs;
+    })
+means_with_clause t (Soft i) xs =
+    let hs = parts_push hard_part t.entries (record { kind = Soft i; clause = xs }) ∙ append-nil _ in
+    let ss = parts_push soft_part t.entries (record { kind = Soft i; clause = xs }) in
+    sym (λ j. record {
+      n = t.n;
       admits = satisfied_all (hs j);
       softs = ss j;
-      free_softs = se j;
-      free_clauses = ce j;
-      free_literals = le j;
-    }
-
--- ---- the records with one more that lies within the literals in use
-pub inside_push : (rs : List ClauseRecord) (used f g : ℕ) (r : ClauseRecord) → used < length rs → f ≤ g
-    → ((k : ℕ) → k < used → (get_or rs k blank).place + (get_or rs k blank).size ≤ f) → r.place + r.size ≤ g
-    → (k : ℕ) → k < used + 1 → (get_or (set rs used r) k blank).place + (get_or (set rs used r) k blank).size ≤ g
-inside_push rs used f g r free longer old new =
-    below_more (λ k. (get_or (set rs used r) k blank).place + (get_or (set rs used r) k blank).size ≤ g) used
-    (λ k l. let other : k ≢ used = omega arith in
-    subst (λ x. x.place + x.size ≤ g) (sym (get_or-set_other rs used k r blank other)) (omega (arith, old k l)))
-    (subst (λ x. x.place + x.size ≤ g) (sym (get_or-set_same rs used r blank free)) new)
+      free_softs = t.free_softs - 1;
+      free_clauses = t.free_clauses - 1;
+      free_literals = t.free_literals - length xs;
+    })

@@ -1,5 +1,5 @@
 -- The clauses of a table in their order, each with its kind.
-use Rattle.std.specs.Prelude.{ℕ, suc, Bool, true, ◌&&◌, List, [], ◌∷◌, ◌++◌, take, drop, ℤ, ◌==◌}
+use Rattle.std.specs.Prelude.{ℕ, suc, ◌+◌, ◌≤◌, Bool, true, false, ◌&&◌, List, [], ◌∷◌, ◌++◌, take, drop, ℤ, ◌==◌}
 use Rattle.terms.specs.Clauses.{satisfied_by}
 use Rattle.tables.specs.declared.records.Clause.{Clause}
 use Rattle.tables.specs.declared.records.ClauseKind.{ClauseKind}
@@ -10,12 +10,20 @@ pub record Entry : Type 0 where
   pub kind : ClauseKind
   pub clause : List ℤ
 
+abbrev pub is_soft : ClauseKind → Bool
+is_soft Hard = false
+is_soft (Soft k) = true
+
 abbrev pub blank : ClauseRecord
 blank = record { place = 0; size = 0; kind = Hard }
 
 -- the clause of a record, its literals being a part of the table of literals
 abbrev pub entry : List ℤ → ClauseRecord → Entry
 entry literals r = record { kind = r.kind; clause = take r.size (drop r.place literals) }
+
+-- the literals of the record's clause are among the first ones, so many
+abbrev pub LiesWithin : ℕ → ClauseRecord → Type 0
+LiesWithin count r = r.place + r.size ≤ count
 
 -- ---- hard and soft clauses, each in order
 abbrev pub hard_part : ClauseKind → List ℤ → List (List ℤ)
@@ -57,6 +65,3 @@ numbered before (e ∷ es) = well_numbered before e.kind && numbered (softs_afte
 -- ---- a clause as it is shown
 abbrev pub as_entry : Clause → Entry
 as_entry c = record { kind = c.kind; clause = c.literals.now }
-
-abbrev pub no_entry : Entry
-no_entry = record { kind = Hard; clause = [] }

@@ -1,4 +1,7 @@
+pub mod Filled
 pub mod Room
 pub mod Entries
-pub mod Tabled
+pub mod Table
+pub mod Tables
 pub mod Trying
+pub mod CountThrough

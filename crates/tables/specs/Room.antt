@@ -1,7 +1,7 @@
 -- What a finder has room for.
 use Rattle.std.specs.Prelude.{ℕ, cond}
 use Rattle.finders.specs.Refused.{too_many}
-use Rattle.tables.specs.declared.making.Room.{Room}
+use Rattle.tables.specs.declared.room.Room.{Room}
 
 -- for n variables, where the finder takes so many at most; no room at all with more
 abbrev pub room : ℕ → ℕ → Room

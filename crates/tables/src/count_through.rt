@@ -1,18 +1,133 @@
-//! The count-through finder: a finder for up to 16 variables that tries every assignment.
-ghost use Rattle.std.specs.Prelude.{◌≤◌};
+//! The count-through finder: it tries every assignment, and assignment number j has the binary digits of j as its values.
+ghost use Rattle.std.specs.Prelude.{◌≡◌, ◌≤◌, ◌↔◌, IsTrue, length, None, Ok};
+ghost use Rattle.terms.specs.Refusals.{told};
+ghost use Rattle.terms.specs.Sets.{mask};
 ghost use Rattle.finders.specs.Meanings.{Limited};
-ghost use Rattle.tables.specs.Tabled.{Roomy, Inside, Proper, Numbered, meaning_of};
+ghost use Rattle.finders.specs.Questions.{Asked};
+ghost use Rattle.finders.specs.Refused.{variables_refused, ask_refused};
+ghost use Rattle.tables.specs.Room.{room};
+ghost use Rattle.tables.specs.Table.{meaning_of, made_in};
+ghost use Rattle.tables.specs.Trying.{Meets, Found, digits};
 
+use crate::records::{ClauseKind, ClauseRecord};
+use crate::room::Room;
 use crate::tables::Tables;
+use finders::{Answer, Finder};
+use terms::{Refusal, SoftSet};
 
 /// Finds a model by trying every assignment, for up to 16 variables.
-#[derive(Drop)]
+#[derive(Debug, Drop)]
 pub struct CountThrough<'a> {
-    pub(crate) tables: Tables<'a>,
+    tables: Tables<'a>,
     ghost few: { tables.n ≤ 16 },
     ghost limited: { Limited (meaning_of tables) },
-    ghost roomy: { Roomy tables },
-    ghost inside: { Inside tables },
-    ghost proper: { Proper tables },
-    ghost numbered: { Numbered tables },
+}
+
+impl<'a> CountThrough<'a> {
+    ghost use Rattle.tables.specs.CountThrough.{finder_meaning};
+
+    /// Refuses more than 16 variables.
+    pub fn check(n: usize) -> Result<(), Refusal>
+        ensures { told result ≡ variables_refused 16 n }
+    {
+        Room::check(n, 16)
+    }
+
+    /// A finder that admits every assignment. The lengths of the tables are its places.
+    /// With more than 16 variables it has no variables and no places.
+    pub fn new(records: &'a mut [ClauseRecord], literals: &'a mut [i32], n: usize) -> Self
+        ensures { finder_meaning result ≡ made_in (room 16 n) (length records.old) (length literals.old) }
+    {
+        CountThrough {
+            tables: Tables::new(records, literals, n, 16),
+        }
+    }
+
+    /// The answer to a question that is not refused. At a core the buffer is not touched.
+    fn try_all(&self, set: SoftSet, buffer: &mut [u8]) -> Answer
+        requires { ask_refused (finder_meaning self.now) (mask set) buffer.old ≡ None }
+        ensures { Asked (finder_meaning self.now) (mask set) buffer.old (Ok result) buffer.new }
+    {
+        match self.first_model(set) {
+            Some(number) => {
+                let n = self.tables.variables();
+                write_digits(&mut buffer[..n], number);
+                Answer::Model
+            }
+            None => Answer::Core(set),
+        }
+    }
+
+    /// The number of the first assignment that is a model, if one is.
+    fn first_model(&self, set: SoftSet) -> Option<u32>
+        ensures { Found (finder_meaning self.now) (mask set) result }
+    {
+        (0..1 << self.tables.variables()).find(|number| self.is_model(set, *number))
+    }
+
+    /// Whether the assignment with this number is a model.
+    fn is_model(&self, set: SoftSet, number: u32) -> bool
+        ensures { IsTrue result ↔ Meets (finder_meaning self.now) (mask set) (digits (finder_meaning self.now).n number) }
+    {
+        let mut values = [0; 16];
+        let trial = &mut values[..self.tables.variables()];
+        write_digits(trial, number);
+        self.tables.meets(set, trial)
+    }
+}
+
+impl Finder for CountThrough<'_> {
+    ghost use Rattle.tables.specs.CountThrough.{finder_meaning};
+
+    ghost meaning = { finder_meaning };
+
+    ghost limited = { λ x. x.limited };
+
+    fn variables(&self) -> usize {
+        self.tables.variables()
+    }
+
+    fn soft_count(&self) -> usize {
+        self.tables.soft_count()
+    }
+
+    fn hard_refusal(&self, clause: &[i32]) -> Option<Refusal> {
+        self.tables.check_clause(ClauseKind::Hard, clause).err()
+    }
+
+    fn soft_refusal(&self, clause: &[i32]) -> Option<Refusal> {
+        self.tables
+            .check_clause(self.tables.next_soft(), clause)
+            .err()
+    }
+
+    fn add_hard(&mut self, clause: &[i32]) -> Result<(), Refusal> {
+        self.tables.add(ClauseKind::Hard, clause)
+    }
+
+    fn add_soft(&mut self, clause: &[i32]) -> Result<(), Refusal> {
+        let kind = self.tables.next_soft();
+        self.tables.add(kind, clause)
+    }
+
+    fn ask(&self, set: SoftSet, buffer: &mut [u8]) -> Result<Answer, Refusal> {
+        self.tables.check_question(set, buffer)?;
+        Ok(self.try_all(set, buffer))
+    }
+
+    fn broken(&self, assignment: &[u8]) -> Result<SoftSet, Refusal> {
+        self.tables.broken(assignment)
+    }
+}
+
+/// Fills the bytes with the binary digits of a number, lowest first.
+#[tactic(auto, using(crate::proofs::Digits::digit_written))]
+fn write_digits(bytes: &mut [u8], number: u32)
+    ensures { bytes.new ≡ digits (length bytes.old) number }
+{
+    let mut rest = number;
+    for byte in bytes.iter_mut() {
+        *byte = (rest % 2) as u8;
+        rest /= 2;
+    }
 }

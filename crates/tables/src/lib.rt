@@ -1,14 +1,12 @@
 //! Clause tables in memory that the caller lends, and the finders that keep their clauses in them.
 #![tactic(auto)]
 
-mod adding;
+mod clauses;
 mod count_through;
-mod counting;
-mod making;
-mod reading;
+mod lent;
 mod records;
+mod room;
 mod tables;
-mod trying;
 
 pub use count_through::CountThrough;
 pub use records::ClauseRecord;
@@ -23,10 +21,7 @@ mod tests {
 
     // The number of a refusal, 0 for none.
     fn number(refusal: Option<Refusal>) -> u8 {
-        match refusal {
-            Some(refusal) => refusal.number(),
-            None => 0,
-        }
+        refusal.map_or(0, |refusal| refusal.number())
     }
 
     #[test]

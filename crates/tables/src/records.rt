@@ -1,16 +1,50 @@
-//! How a clause stands in the tables.
-ghost use Rattle.std.specs.Prelude.{◌≡◌};
-ghost use Rattle.tables.specs.Entries.{blank};
+//! How a clause stands in the tables, and how they show it.
+ghost use Rattle.std.specs.Prelude.{◌≡◌, ◌≤◌};
+ghost use Rattle.terms.specs.Sets.{mask};
+ghost use Rattle.tables.specs.Entries.{blank, is_soft, softs_after};
+ghost use Rattle.tables.specs.Trying.{wanted, met};
+
+use terms::{SoftSet, satisfies};
 
 /// Whether a clause is hard, or which soft number it has.
-#[derive(Clone, Copy)]
+#[derive(Clone, Copy, PartialEq, Eq, Debug)]
 pub enum ClauseKind {
     Hard,
     Soft(u8),
 }
 
+impl ClauseKind {
+    /// Whether a clause of this kind is soft.
+    pub(crate) fn is_soft(self) -> bool
+        ensures { result ≡ is_soft self }
+    {
+        matches!(self, ClauseKind::Soft(_))
+    }
+
+    /// How many soft clauses there are with one clause more, of this kind.
+    pub(crate) fn softs_after(self, softs: usize) -> usize
+        requires { softs ≤ 64 }
+        ensures { result ≡ softs_after softs self }
+    {
+        match self {
+            ClauseKind::Hard => softs,
+            ClauseKind::Soft(_) => softs + 1,
+        }
+    }
+
+    /// Whether a model for the set has to satisfy a clause of this kind.
+    fn is_wanted(self, set: SoftSet) -> bool
+        ensures { result ≡ wanted (mask set) self }
+    {
+        match self {
+            ClauseKind::Hard => true,
+            ClauseKind::Soft(number) => set.has(number as usize),
+        }
+    }
+}
+
 /// One record a clause: where its literals begin in the table of literals, how many there are, and its kind.
-#[derive(Clone, Copy)]
+#[derive(Clone, Copy, PartialEq, Eq, Debug)]
 pub struct ClauseRecord {
     pub(crate) place: u16,
     pub(crate) size: u8,
@@ -31,8 +65,17 @@ impl ClauseRecord {
 }
 
 /// A clause as the tables show it.
-#[derive(Clone, Copy)]
+#[derive(Clone, Copy, PartialEq, Eq, Debug)]
 pub struct Clause<'a> {
     pub kind: ClauseKind,
     pub literals: &'a [i32],
+}
+
+impl Clause<'_> {
+    /// Whether the assignment satisfies the clause, or need not as a model for the set.
+    pub(crate) fn is_met(self, set: SoftSet, assignment: &[u8]) -> bool
+        ensures { result ≡ met (mask set) assignment.now self.entry.kind self.entry.literals.now }
+    {
+        !self.kind.is_wanted(set) || satisfies(assignment, self.literals)
+    }
 }

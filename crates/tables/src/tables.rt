@@ -1,25 +1,46 @@
-//! The two lent tables and how far they are filled. The finders on them keep what holds of them.
-ghost use Rattle.std.specs.Prelude.{◌≡◌, ◌+◌, ◌<◌, ◌≤◌, min, true, ◌++◌, length, take, drop, None, slice_index_or};
-ghost use Rattle.tables.specs.Entries.{as_entry, no_entry, softs_after, well_numbered};
-ghost use Rattle.tables.specs.Tabled.{Valid, held, meaning_of, made_in, refused_as, with_clause};
+//! The clauses of a finder in two lent tables: making these, adding to them and reading them.
+ghost use Rattle.std.specs.Prelude.{◌≡◌, ◌↔◌, IsTrue, ℕ, ◌≤◌, length, None};
+ghost use Rattle.terms.specs.Clauses.{breaks};
+ghost use Rattle.terms.specs.Masks.{member};
+ghost use Rattle.terms.specs.Refusals.{told, unless_refused};
+ghost use Rattle.terms.specs.Sets.{mask};
+ghost use Rattle.finders.specs.Meanings.{Limited};
+ghost use Rattle.finders.specs.Questions.{ToldBroken};
+ghost use Rattle.finders.specs.Refused.{ask_refused, broken_refused};
+ghost use Rattle.tables.specs.Entries.{softs, numbered, well_numbered};
+ghost use Rattle.tables.specs.Table.{meaning_of, made_in, refused_as, with_clause, with_entry};
 ghost use Rattle.tables.specs.Room.{room};
+ghost use Rattle.tables.specs.Trying.{Meets};
 
-use crate::making::room_for;
-use crate::records::{Clause, ClauseKind, ClauseRecord};
+use crate::clauses::Clauses;
+use crate::lent::Lent;
+use crate::records::{ClauseKind, ClauseRecord};
+use crate::room::Room;
+use std::marker::Model;
+use terms::{Part, Refusal, SoftSet, first_bad_literal, is_binary, satisfies};
 
-/// The records of the clauses, and their literals one clause after another, each in a slice that the caller lends.
-#[derive(Drop)]
+/// The records of the clauses, and their literals one clause after another.
+#[derive(Debug, Drop)]
 pub struct Tables<'a> {
-    pub(crate) records: &'a mut [ClauseRecord],
-    pub(crate) literals: &'a mut [i32],
-    /// How many records are in use, and how many literals.
-    pub(crate) used: usize,
-    pub(crate) filled: usize,
+    records: Lent<'a, ClauseRecord>,
+    literals: Lent<'a, i32>,
     /// How many clauses are soft, and how many can be.
-    pub(crate) softs: usize,
-    pub(crate) limit: usize,
+    softs: usize,
+    limit: usize,
     /// The number of variables.
-    pub(crate) n: usize,
+    n: usize,
+}
+
+impl<'a> Model for Tables<'a> {
+    ghost use Rattle.tables.specs.Table.{Table};
+
+    ghost Value = { Table };
+
+    ghost use Rattle.tables.specs.Tables.{table_of, Valid};
+
+    ghost view = { table_of };
+
+    ghost invariant = { Valid };
 }
 
 impl<'a> Tables<'a> {
@@ -32,89 +53,142 @@ impl<'a> Tables<'a> {
         most: usize,
     ) -> Self
         requires { most ≤ 256 }
-        ensures valid { Valid result }
-        ensures means { meaning_of result ≡ made_in (room most n) (length records.old) (length literals.old) }
+        ensures meaning { meaning_of result ≡ made_in (room most n) (length records.old) (length literals.old) }
+        ensures limited { Limited (meaning_of result) }
     {
-        let room = room_for(n, most);
-        let clause_places = smaller(records.len(), room.places);
-        let literal_places = smaller(literals.len(), room.places);
+        let room = Room::new(n, most);
+        let clause_places = records.len().min(room.places);
+        let literal_places = literals.len().min(room.places);
         Tables {
-            records: &mut records[..clause_places],
-            literals: &mut literals[..literal_places],
-            used: 0,
-            filled: 0,
+            records: Lent::new(&mut records[..clause_places]),
+            literals: Lent::new(&mut literals[..literal_places]),
             softs: 0,
             limit: room.softs,
             n: room.variables,
         }
     }
 
-    /// How many clauses there are.
-    pub(crate) fn count(&self) -> usize
-        requires { Valid self.now }
-        ensures { result ≡ length (held self.now) }
+    /// The kind of the next soft clause.
+    pub(crate) fn next_soft(&self) -> ClauseKind
+        ensures { result ≡ ClauseKind.Soft (length (softs self.now.entries)) }
     {
-        self.used
+        ClauseKind::Soft(self.softs as u8)
     }
 
-    /// The clause of record `k`.
-    pub(crate) fn at(&self, k: usize) -> Clause<'_>
-        requires valid { Valid self.now }
-        requires within { k < length (held self.now) }
-        ensures { as_entry result ≡ slice_index_or (held self.now) k no_entry }
+    /// Refuses the clause where it cannot be added.
+    pub(crate) fn check_clause(&self, kind: ClauseKind, clause: &[i32]) -> Result<(), Refusal>
+        ensures { told result ≡ refused_as kind (meaning_of self.now) clause.now }
     {
-        let record = self.records[k];
-        let start = record.place as usize;
-        let end = start + record.size as usize;
-        Clause {
-            kind: record.kind,
-            literals: &self.literals[start..end],
+        if clause.len() > 64 {
+            Err(Refusal::ClauseTooLong)
+        } else if first_bad_literal(clause, self.n).is_some() {
+            Err(Refusal::BadLiteral)
+        } else if kind.is_soft() && self.softs == self.limit {
+            Err(Refusal::NoSoftPlace(Part::Finder))
+        } else if self.records.free() == 0 || self.literals.free() < clause.len() {
+            Err(Refusal::NoClausePlace)
+        } else {
+            Ok(())
         }
     }
 
-    /// Writes the clause behind the others.
-    pub(crate) fn push(&mut self, kind: ClauseKind, clause: &[i32])
-        requires valid { Valid self.old }
-        requires fine { refused_as kind (meaning_of self.old) clause.now ≡ None }
-        requires number { well_numbered self.old.softs kind ≡ true }
-        ensures valid { Valid self.new }
-        ensures means { meaning_of self.new ≡ with_clause kind (meaning_of self.old) clause.now }
+    /// Adds the clause behind the others.
+    #[tactic(auto, using(crate::proofs::Pushed::means_with_clause, crate::proofs::Pushed::limited_push))]
+    pub(crate) fn add(&mut self, kind: ClauseKind, clause: &[i32]) -> Result<(), Refusal>
+        requires { IsTrue (well_numbered (length (softs self.old.entries)) kind) }
+        ensures refusal { told result ≡ refused_as kind (meaning_of self.old) clause.now }
+        ensures meaning { meaning_of self.new ≡ unless_refused (told result) (with_clause kind (meaning_of self.old) clause.now) (meaning_of self.old) }
+        ensures limited { Limited (meaning_of self.new) }
     {
-        let place = self.filled;
-        copy_at(self.literals, place, clause);
-        self.records[self.used] = ClauseRecord {
-            place: place as u16,
+        let _ = &self.records;
+        self.check_clause(kind, clause)?;
+        self.push(kind, clause);
+        Ok(())
+    }
+
+    /// Writes the clause behind the others.
+    fn push(&mut self, kind: ClauseKind, clause: &[i32])
+        requires fine { refused_as kind (meaning_of self.old) clause.now ≡ None }
+        requires number { IsTrue (well_numbered (length (softs self.old.entries)) kind) }
+        ensures { self.new ≡ with_entry self.old (record { kind = kind; clause = clause.now }) }
+    {
+        self.records.push(ClauseRecord {
+            place: self.literals.items().len() as u16,
             size: clause.len() as u8,
             kind,
-        };
-        self.used += 1;
-        self.filled += clause.len();
-        self.softs = softs_with(self.softs, kind);
+        });
+        self.literals.extend(clause);
+        self.softs = kind.softs_after(self.softs);
     }
-}
 
-fn smaller(a: usize, b: usize) -> usize
-    ensures { result ≡ min a b }
-{
-    if a < b { a } else { b }
-}
-
-/// How many soft clauses there are with one more clause.
-fn softs_with(softs: usize, kind: ClauseKind) -> usize
-    requires { softs ≤ 64 }
-    ensures { result ≡ softs_after softs kind }
-{
-    match kind {
-        ClauseKind::Hard => softs,
-        ClauseKind::Soft(_) => softs + 1,
+    /// The number of variables.
+    pub(crate) fn variables(&self) -> usize
+        ensures { result ≡ self.now.n }
+    {
+        self.n
     }
-}
 
-/// Writes the part over what stands from `at` on.
-fn copy_at(whole: &mut [i32], at: usize, part: &[i32])
-    requires { at + length part.now ≤ length whole.old }
-    ensures { whole.new ≡ take at whole.old ++ (part.now ++ drop (at + length part.now) whole.old) }
-{
-    let end = at + part.len();
-    whole[at..end].copy_from_slice(part);
+    /// The number of soft clauses.
+    pub(crate) fn soft_count(&self) -> usize
+        ensures { result ≡ length (softs self.now.entries) }
+    {
+        self.softs
+    }
+
+    /// The clauses in the order in which they were added.
+    pub(crate) fn clauses(&self) -> Clauses<'_>
+        ensures clauses { result ≡ self.now.entries }
+        ensures numbered { IsTrue (numbered 0 self.now.entries) }
+        ensures limited { Limited (meaning_of self.now) }
+    {
+        Clauses::new(self.records.items(), self.literals.items())
+    }
+
+    /// Refuses to be asked for the set with the buffer where either does not fit.
+    pub(crate) fn check_question(&self, set: SoftSet, buffer: &[u8]) -> Result<(), Refusal>
+        ensures { told result ≡ ask_refused (meaning_of self.now) (mask set) buffer.now }
+    {
+        if buffer.len() < self.n {
+            Err(Refusal::TooShort)
+        } else if !set.all_below(self.softs) {
+            Err(Refusal::UnknownSoft)
+        } else {
+            Ok(())
+        }
+    }
+
+    /// Whether the assignment satisfies the hard clauses and those of the set.
+    pub(crate) fn meets(&self, set: SoftSet, assignment: &[u8]) -> bool
+        ensures { IsTrue result ↔ Meets (meaning_of self.now) (mask set) assignment.now }
+    {
+        self.clauses().all(|clause| clause.is_met(set, assignment))
+    }
+
+    /// Which soft clauses the assignment in the first n bytes breaks.
+    pub(crate) fn broken(&self, assignment: &[u8]) -> Result<SoftSet, Refusal>
+        ensures refusal { told result ≡ broken_refused (meaning_of self.now) assignment.now }
+        ensures answer { ToldBroken (meaning_of self.now) assignment.now result }
+    {
+        let assignment = assignment.get(..self.n).ok_or(Refusal::TooShort)?;
+        if !is_binary(assignment) {
+            return Err(Refusal::BadByte);
+        }
+        Ok(self.broken_by(assignment))
+    }
+
+    /// Which soft clauses the assignment breaks.
+    #[tactic(auto, using(crate::proofs::Breaking::broken_is, terms::proofs::ClauseLaws::all_fit))]
+    fn broken_by(&self, assignment: &[u8]) -> SoftSet
+        ensures { (k : ℕ) → member (mask result) k ≡ breaks assignment.now (meaning_of self.now).softs k }
+    {
+        let mut broken = SoftSet::empty();
+        for clause in self.clauses() {
+            if let ClauseKind::Soft(number) = clause.kind
+                && !satisfies(assignment, clause.literals)
+            {
+                broken = broken.insert(number as usize);
+            }
+        }
+        broken
+    }
 }

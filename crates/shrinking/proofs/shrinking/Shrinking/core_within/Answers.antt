@@ -7,5 +7,5 @@ use Rattle.shrinking.proofs.shrinking.Shrinking.core_within.Goals as goal
 pub returns-in_default : goal.returns-in_default
 returns-in_default g c =
     let below = c.args.self.now in
-    let accepted = not_refused (g.F.Finder.meaning below) c.args.set (replicate 256 0) (g.F.Finder.limited below).0 c.requires in
+    let accepted = not_refused (g.F.Finder.meaning below) c.args.set (replicate 256 0) (g.met.F.Finder.limited below).0 c.requires in
     absurd (never _ _ c.in_default.ensures.refusal (rw c.self.view_is accepted))

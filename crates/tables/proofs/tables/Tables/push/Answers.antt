@@ -1,49 +1,55 @@
-use Rattle.std.proofs.Common.{◌≡◌, ℕ, ◌+◌, ◌-◌, ◌<◌, ◌≤◌, false, length, get_or, pos, sym, ap, ◌∙◌, subst, arith, rules}
-use Rattle.std.proofs.lemmas.List.{length-set}
+use Rattle.std.proofs.Common.{◌≡◌, ◌+◌, ◌-◌, ◌≤◌, true, false, List, All, map, length, pos, ℤ, None, sym, ap, ◌∙◌, subst, arith}
+use Rattle.std.proofs.lemmas.List.{length-append}
+use Rattle.std.proofs.lemmas.List.Elements.{All-append, All-from_get_or}
 use Rattle.terms.specs.Clauses.{bad_literal}
-use Rattle.tables.specs.Entries.{Entry, softs, numbered, well_numbered, softs_after}
-use Rattle.tables.specs.Tabled.{held, meaning_of}
-use Rattle.tables.specs.declared.records.ClauseKind.{ClauseKind}
-use Rattle.tables.specs.declared.records.ClauseKind.TheVariants.{Hard, Soft}
-use Rattle.tables.proofs.Pasted.{pasted_length, proper_pasted}
-use Rattle.tables.proofs.Pushed.{accepted, held_push, means_push, numbered_push, softs_push, inside_push}
+use Rattle.tables.specs.Entries.{Entry, entry, softs, numbered, well_numbered, softs_after}
+use Rattle.tables.specs.Table.{Table, meaning_of, refused_as, with_entry}
+use Rattle.tables.proofs.Pushed.{Accepted, accepted, entries_push, inside_push, numbered_push, softs_push, counted_push}
 use Rattle.tables.proofs.tables.Tables.push.Goals as goal
 
-counted : (k : ClauseKind) (s limit : ℕ) → softs_after 0 k ≤ limit - s → s ≤ limit → (limit - softs_after s k ≡ limit - s - softs_after 0 k) × (softs_after s k ≤ limit)
-counted Hard s limit h l = (omega arith, l)
-counted (Soft i) s limit h l = (omega arith, omega arith)
+-- what is known of the clause, said of what the tables hold
+accepted_by : {s t : Table} (k : _) (xs : List ℤ) → t ≡ s → refused_as k (meaning_of s) xs ≡ None → well_numbered (length (softs s.entries)) k ≡ true
+    → Accepted k (meaning_of t) xs × (well_numbered (0 + length (softs t.entries)) k ≡ true)
+accepted_by {s} {t} k xs e fine number = (
+  accepted k (meaning_of t) xs (ap (λ s. refused_as k (meaning_of s) xs) e ∙ fine),
+  ap (λ n. well_numbered n k) (let z : 0 + length (softs t.entries) ≡ length (softs t.entries) = omega arith in z) ∙ ap (λ s. well_numbered (length (softs s.entries)) k) e ∙ number,
+)
+
+pub invariant_of-self : goal.invariant_of-self
+invariant_of-self c =
+    let t = c.self.inside in
+    let v = c.self.invariant in
+    let k = c.args.kind in
+    let xs = c.args.clause.now in
+    let e : Entry = record { kind = k; clause = xs } in
+    let es = map (entry t.literals.items) t.records.items in
+    let known = accepted_by k xs c.self.view_is c.requires.fine c.requires.number in
+    let start = ap length c.items.ensures in
+    let long = ap length c.extend.ensures.items ∙ length-append t.literals.items xs in
+    let held = entries_push t.records.items t.literals.items xs k v.inside start c.push.ensures.items c.extend.ensures.items in
+    let count = counted_push k t.softs t.limit known.0.soft_place v.fitting in
+    let more = ap (λ s. length (softs s)) held ∙ softs_push es e ∙ ap (λ s. softs_after s k) v.counted ∙ sym c.softs_after-self-inside.ensures in
+    let fitting : c.softs_after-self-inside.result ≤ t.limit = subst (λ s. s ≤ t.limit) (sym c.softs_after-self-inside.ensures) count.1 in
+    record {
+      limited = (v.limited.0, omega (arith, more, fitting, v.limited.1, v.counted, v.fitting));
+      roomy = omega (arith, long);
+      inside = inside_push t.records.items (length t.literals.items) _ _ v.inside (omega (arith, long)) (omega (arith, long, start)) c.push.ensures.items;
+      proper = subst (All (λ l. bad_literal t.n l ≡ false)) (sym c.extend.ensures.items)
+          (All-append (λ l. bad_literal t.n l ≡ false) t.literals.items xs v.proper (All-from_get_or (λ l. bad_literal t.n l ≡ false) xs (pos 0) known.0.proper));
+      numbered = ap (numbered 0) held ∙ numbered_push 0 es e v.numbered known.1;
+      counted = more;
+      fitting = fitting;
+    }
 
 pub returns : goal.returns
 returns c =
-    let t = c.args.self.now in
-    let v = c.requires.valid in
-    let xs = c.args.clause.now in
+    let t = c.self.inside in
     let k = c.args.kind in
-    let a = accepted k (meaning_of t) xs c.requires.fine in
-    let e = c.copy_at.ensures in
-    let fit : t.filled + length xs ≤ length t.literals.now = omega arith in
-    let low : t.filled ≤ length t.literals.now = omega arith in
-    let free : t.used < length t.records.now = omega arith in
-    let long = ap length e ∙ pasted_length t.literals.now t.filled xs fit in
-    let one : Entry = record { kind = k; clause = xs } in
-    let hs = held_push t.records.now t.used t.literals.now t.filled xs k low free v.inside c.copy_at.new.whole e in
-    let count = counted k t.softs t.limit a.soft_place v.numbered.2 in
-    let softs_are = c.softs_with-self.ensures in
-    let more = ap (λ es. length (softs es)) hs ∙ softs_push (held t) one ∙ ap (λ s. softs_after s k) v.numbered.1 ∙ sym softs_are in
-    let within : c.softs_with-self.result ≤ t.limit = subst (λ s. s ≤ t.limit) (sym softs_are) count.1 in
-    record {
-      valid = record {
-        limited = (v.limited.0, omega (arith, more, within, v.limited.1, v.numbered.1, v.numbered.2));
-        roomy = (search (rules, length-set), omega (arith, long), omega (arith, long));
-        inside = inside_push t.records.now t.used t.filled (t.filled + length xs) _ free (omega arith) v.inside (omega arith);
-        proper = subst (λ ls. (i : ℕ) → i < t.filled + length xs → bad_literal t.n (get_or ls i (pos 0)) ≡ false) (sym e)
-            (proper_pasted t.n t.literals.now t.filled xs low v.proper a.proper);
-        numbered = (
-          ap (numbered 0) hs ∙ numbered_push 0 (held t) one v.numbered.0 (ap (λ s. well_numbered s k) (let z : 0 + length (softs (held t)) ≡ t.softs = omega (arith, v.numbered.1) in z) ∙ c.requires.number),
-          more,
-          within,
-        );
-      };
-      means = means_push t.n (held t) _ k xs _ _ _ _ _ _ hs
-          (ap (λ s. t.limit - s) softs_are ∙ count.0) (simp length-set (omega arith)) (omega (arith, long));
-    }
+    let xs = c.args.clause.now in
+    let held = entries_push t.records.items t.literals.items xs k c.self.invariant.inside (ap length c.items.ensures) c.push.ensures.items c.extend.ensures.items in
+    let known = accepted_by k xs c.self.view_is c.requires.fine c.requires.number in
+    let softs_left = ap (λ s. t.limit - s) c.softs_after-self-inside.ensures ∙ (counted_push k t.softs t.limit known.0.soft_place c.self.invariant.fitting).0 in
+    let clauses_left : c.push.new.self.free ≡ t.records.free - 1 = omega arith in
+    let literals_left : c.extend.new.self.free ≡ t.literals.free - length xs = omega arith in
+    (λ j. record { n = t.n; entries = held j; free_softs = softs_left j; free_clauses = clauses_left j; free_literals = literals_left j })
+    ∙ ap (λ s. with_entry s (record { kind = k; clause = xs })) c.self.view_is

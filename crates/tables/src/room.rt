@@ -1,0 +1,45 @@
+//! Whether a finder takes so many variables, and what it then has room for.
+ghost use Rattle.std.specs.Prelude.{◌≡◌};
+ghost use Rattle.terms.specs.Refusals.{told};
+ghost use Rattle.finders.specs.Refused.{variables_refused};
+ghost use Rattle.tables.specs.Room.{room};
+
+use terms::Refusal;
+
+/// How many variables a finder has, how many soft clauses it takes, and how long its tables can be.
+#[derive(Clone, Copy, PartialEq, Eq, Debug)]
+pub struct Room {
+    pub(crate) variables: usize,
+    pub(crate) softs: usize,
+    pub(crate) places: usize,
+}
+
+impl Room {
+    /// Refuses more variables than `most`.
+    pub(crate) fn check(n: usize, most: usize) -> Result<(), Refusal>
+        ensures { told result ≡ variables_refused most n }
+    {
+        if n > most {
+            return Err(Refusal::TooManyVariables);
+        }
+        Ok(())
+    }
+
+    /// The room of a finder that takes up to `most` variables: with more than that it has none.
+    pub(crate) fn new(n: usize, most: usize) -> Self
+        ensures { result ≡ room most n }
+    {
+        match Room::check(n, most) {
+            Ok(()) => Room {
+                variables: n,
+                softs: 64,
+                places: 32768,
+            },
+            Err(_) => Room {
+                variables: 0,
+                softs: 0,
+                places: 0,
+            },
+        }
+    }
+}
