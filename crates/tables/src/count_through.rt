@@ -1,7 +1,6 @@
 //! The count-through finder: it tries every assignment, and assignment number j has the binary digits of j as its values.
 ghost use Rattle.std.specs.Prelude.{◌≡◌, ◌≤◌, ◌↔◌, IsTrue, length, None, Ok};
 ghost use Rattle.terms.specs.Refusals.{told};
-ghost use Rattle.terms.specs.Sets.{mask};
 ghost use Rattle.finders.specs.Meanings.{Limited};
 ghost use Rattle.finders.specs.Questions.{Asked};
 ghost use Rattle.finders.specs.Refused.{variables_refused, ask_refused};
@@ -45,8 +44,8 @@ impl<'a> CountThrough<'a> {
 
     /// The answer to a question that is not refused. At a core the buffer is not touched.
     fn try_all(&self, set: SoftSet, buffer: &mut [u8]) -> Answer
-        requires { ask_refused (finder_meaning self.now) (mask set) buffer.old ≡ None }
-        ensures { Asked (finder_meaning self.now) (mask set) buffer.old (Ok result) buffer.new }
+        requires { ask_refused (finder_meaning self.now) set buffer.old ≡ None }
+        ensures { Asked (finder_meaning self.now) set buffer.old (Ok result) buffer.new }
     {
         match self.first_model(set) {
             Some(number) => {
@@ -60,14 +59,14 @@ impl<'a> CountThrough<'a> {
 
     /// The number of the first assignment that is a model, if one is.
     fn first_model(&self, set: SoftSet) -> Option<u32>
-        ensures { Found (finder_meaning self.now) (mask set) result }
+        ensures { Found (finder_meaning self.now) set result }
     {
         (0..1 << self.tables.variables()).find(|number| self.is_model(set, *number))
     }
 
     /// Whether the assignment with this number is a model.
     fn is_model(&self, set: SoftSet, number: u32) -> bool
-        ensures { IsTrue result ↔ Meets (finder_meaning self.now) (mask set) (digits (finder_meaning self.now).n number) }
+        ensures { IsTrue result ↔ Meets (finder_meaning self.now) set (digits (finder_meaning self.now).n number) }
     {
         let mut values = [0; 16];
         let trial = &mut values[..self.tables.variables()];

@@ -1,6 +1,5 @@
 //! How a clause stands in the tables, and how they show it.
 ghost use Rattle.std.specs.Prelude.{◌≡◌, ◌≤◌};
-ghost use Rattle.terms.specs.Sets.{mask};
 ghost use Rattle.tables.specs.Entries.{blank, is_soft, softs_after};
 ghost use Rattle.tables.specs.Trying.{wanted, met};
 
@@ -34,7 +33,7 @@ impl ClauseKind {
 
     /// Whether a model for the set has to satisfy a clause of this kind.
     fn is_wanted(self, set: SoftSet) -> bool
-        ensures { result ≡ wanted (mask set) self }
+        ensures { result ≡ wanted set self }
     {
         match self {
             ClauseKind::Hard => true,
@@ -74,7 +73,7 @@ pub struct Clause<'a> {
 impl Clause<'_> {
     /// Whether the assignment satisfies the clause, or need not as a model for the set.
     pub(crate) fn is_met(self, set: SoftSet, assignment: &[u8]) -> bool
-        ensures { result ≡ met (mask set) assignment.now self.entry.kind self.entry.literals.now }
+        ensures { result ≡ met set assignment.now self.entry.kind self.entry.literals.now }
     {
         !self.kind.is_wanted(set) || satisfies(assignment, self.literals)
     }

@@ -3,7 +3,6 @@ ghost use Rattle.std.specs.Prelude.{◌≡◌, ◌↔◌, IsTrue, ℕ, ◌≤◌
 ghost use Rattle.terms.specs.Clauses.{breaks};
 ghost use Rattle.terms.specs.Masks.{member};
 ghost use Rattle.terms.specs.Refusals.{told, unless_refused};
-ghost use Rattle.terms.specs.Sets.{mask};
 ghost use Rattle.finders.specs.Meanings.{Limited};
 ghost use Rattle.finders.specs.Questions.{ToldBroken};
 ghost use Rattle.finders.specs.Refused.{ask_refused, broken_refused};
@@ -146,7 +145,7 @@ impl<'a> Tables<'a> {
 
     /// Refuses to be asked for the set with the buffer where either does not fit.
     pub(crate) fn check_question(&self, set: SoftSet, buffer: &[u8]) -> Result<(), Refusal>
-        ensures { told result ≡ ask_refused (meaning_of self.now) (mask set) buffer.now }
+        ensures { told result ≡ ask_refused (meaning_of self.now) set buffer.now }
     {
         if buffer.len() < self.n {
             Err(Refusal::TooShort)
@@ -159,7 +158,7 @@ impl<'a> Tables<'a> {
 
     /// Whether the assignment satisfies the hard clauses and those of the set.
     pub(crate) fn meets(&self, set: SoftSet, assignment: &[u8]) -> bool
-        ensures { IsTrue result ↔ Meets (meaning_of self.now) (mask set) assignment.now }
+        ensures { IsTrue result ↔ Meets (meaning_of self.now) set assignment.now }
     {
         self.clauses().all(|clause| clause.is_met(set, assignment))
     }
@@ -179,7 +178,7 @@ impl<'a> Tables<'a> {
     /// Which soft clauses the assignment breaks.
     #[tactic(auto, using(crate::proofs::Breaking::broken_is, terms::proofs::ClauseLaws::all_fit))]
     fn broken_by(&self, assignment: &[u8]) -> SoftSet
-        ensures { (k : ℕ) → member (mask result) k ≡ breaks assignment.now (meaning_of self.now).softs k }
+        ensures { (k : ℕ) → member result k ≡ breaks assignment.now (meaning_of self.now).softs k }
     {
         let mut broken = SoftSet::empty();
         for clause in self.clauses() {

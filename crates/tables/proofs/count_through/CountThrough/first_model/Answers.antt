@@ -1,7 +1,6 @@
 use Rattle.std.proofs.Common.{◌≡◌, ℕ, ◌*◌, ◌%◌, ◌^◌, ◌<◌, ◌≤◌, Some, None, Option, MatchOption, ap, subst, arith, pow_mono, rules}
 use borrow.Author.Tests.{tests}
 use Rattle.std.proofs.lemmas.Iterator.{first_from_Range}
-use Rattle.terms.specs.Sets.{mask}
 use Rattle.finders.specs.Meanings.{FinderMeaning}
 use Rattle.tables.specs.Table.{meaning_of}
 use Rattle.tables.specs.Trying.{Meets, Found, digits}
@@ -24,7 +23,7 @@ found m set e (Some j) few is h = record { assigns = digits_assign m.n j; admitt
 pub returns : goal.returns
 returns c =
     let m = meaning_of c.args.self.now.tables in
-    let set = mask c.args.set in
+    let set = c.args.set in
     let cases = first_from_Range _ _ _ c.find.result (λ (j : ℕ). Meets m set (digits m.n j)) (λ (j : ℕ). Meets m set (digits m.n j) → ⊥) c.find.ensures.ran
     (λ x q k. search (rules, tests)) (λ x q k. search (rules, tests)) in
     found m set _ c.find.result c.args.self.now.few (ap (λ n. 1 * 2 ^ n % 4294967296) c.variables.ensures) cases

@@ -3,7 +3,6 @@ use borrow.Author.Tests.{tests}
 use Rattle.std.proofs.lemmas.Iterator.{cases_from_all}
 use Rattle.std.proofs.lemmas.Iterator.Consumers.{YieldsList-from_first}
 use Rattle.std.proofs.lemmas.Bool.Decides.{Decides-at}
-use Rattle.terms.specs.Sets.{mask}
 use Rattle.tables.specs.Entries.{Entry, as_entry}
 use Rattle.tables.specs.Trying.{met}
 use Rattle.tables.proofs.Meeting.{all_met, all_met_from_cases, met_decides}
@@ -13,7 +12,7 @@ pub returns : goal.returns
 returns c =
     let a = c.args.assignment.now in
     let es = c.args.self.now.entries in
-    let set = mask c.args.set in
+    let set = c.args.set in
     Decides-at c.all.result (all_met set a es)
     (all_met_from_cases set a es c.all.result
     (cases_from_all _ _ c.all.result (λ (e : Entry). met set a e.kind e.clause ≡ true) (λ (e : Entry). met set a e.kind e.clause ≡ false) c.all.ensures.ran
