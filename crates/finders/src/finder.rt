@@ -1,6 +1,7 @@
 //! The trait `Finder`. Whatever stands behind it, its calls are told by its meaning alone.
 ghost use Rattle.std.specs.Prelude.{◌≡◌, length};
-ghost use Rattle.terms.specs.Refusals.{told, unless_refused};
+ghost use Rattle.std.specs.Result.{result_err};
+ghost use Rattle.terms.specs.Refusals.{unless_refused};
 ghost use Rattle.finders.specs.Meanings.{FinderMeaning, Limited, with_hard, with_soft};
 ghost use Rattle.finders.specs.Refused.{hard_refused, soft_refused, ask_refused, broken_refused};
 ghost use Rattle.finders.specs.Questions.{Asked, ToldBroken};
@@ -39,23 +40,23 @@ pub trait Finder {
 
     /// Admits from now on only what satisfies the clause.
     fn add_hard(&mut self, clause: &[i32]) -> Result<(), Refusal>
-        ensures refusal { told result ≡ hard_refused (meaning self.old) clause.now }
-        ensures meaning { meaning self.new ≡ unless_refused (told result) (with_hard (meaning self.old) clause.now) (meaning self.old) };
+        ensures refusal { result_err result ≡ hard_refused (meaning self.old) clause.now }
+        ensures meaning { meaning self.new ≡ unless_refused (result_err result) (with_hard (meaning self.old) clause.now) (meaning self.old) };
 
     /// Puts the clause last among the soft clauses.
     fn add_soft(&mut self, clause: &[i32]) -> Result<(), Refusal>
-        ensures refusal { told result ≡ soft_refused (meaning self.old) clause.now }
-        ensures meaning { meaning self.new ≡ unless_refused (told result) (with_soft (meaning self.old) clause.now) (meaning self.old) };
+        ensures refusal { result_err result ≡ soft_refused (meaning self.old) clause.now }
+        ensures meaning { meaning self.new ≡ unless_refused (result_err result) (with_soft (meaning self.old) clause.now) (meaning self.old) };
 
     /// Looks for an admitted assignment that satisfies all soft clauses of the set.
     /// Only a model is written into the buffer, into the first n bytes.
     fn ask(&self, set: SoftSet, buffer: &mut [u8]) -> Result<Answer, Refusal>
-        ensures refusal { told result ≡ ask_refused (meaning self.now) set buffer.old }
+        ensures refusal { result_err result ≡ ask_refused (meaning self.now) set buffer.old }
         ensures answer { Asked (meaning self.now) set buffer.old result buffer.new };
 
     /// Which soft clauses the assignment in the first n bytes breaks.
     fn broken(&self, assignment: &[u8]) -> Result<SoftSet, Refusal>
-        ensures refusal { told result ≡ broken_refused (meaning self.now) assignment.now }
+        ensures refusal { result_err result ≡ broken_refused (meaning self.now) assignment.now }
         ensures answer { ToldBroken (meaning self.now) assignment.now result };
 
     ghost limited: { (x : Self) → Limited (meaning x) };

@@ -1,7 +1,7 @@
 //! The shrinking layer behind the trait `Finder`: it takes members out of a core as long as the rest is one.
 ghost use Rattle.std.specs.Prelude.{◌≡◌, length};
+ghost use Rattle.std.specs.Result.{result_err};
 ghost use Rattle.terms.specs.Masks.{Subset, Below};
-ghost use Rattle.terms.specs.Refusals.{told};
 ghost use Rattle.finders.specs.Questions.{Asked, Core};
 ghost use Rattle.finders.specs.Refused.{ask_refused};
 ghost use Rattle.shrinking.specs.Shrunk.{Cored, Minimal, Shrunk, Smaller};
@@ -101,7 +101,7 @@ impl<F: Finder> Finder for Shrinking<F> {
 
     /// As every finder, and a core has no member to spare.
     fn ask(&self, set: SoftSet, buffer: &mut [u8]) -> Result<Answer, Refusal>
-        ensures refusal { told result ≡ ask_refused (F.Finder.meaning self.now) set buffer.old }
+        ensures refusal { result_err result ≡ ask_refused (F.Finder.meaning self.now) set buffer.old }
         ensures answer { Asked (F.Finder.meaning self.now) set buffer.old result buffer.new }
         ensures minimal { Shrunk (F.Finder.meaning self.now) result }
     {

@@ -1,6 +1,6 @@
 //! The count-through finder: it tries every assignment, and assignment number j has the binary digits of j as its values.
 ghost use Rattle.std.specs.Prelude.{◌≡◌, ◌≤◌, ◌↔◌, IsTrue, length, None, Ok};
-ghost use Rattle.terms.specs.Refusals.{told};
+ghost use Rattle.std.specs.Result.{result_err};
 ghost use Rattle.finders.specs.Meanings.{Limited};
 ghost use Rattle.finders.specs.Questions.{Asked};
 ghost use Rattle.finders.specs.Refused.{variables_refused, ask_refused};
@@ -27,7 +27,7 @@ impl<'a> CountThrough<'a> {
 
     /// Refuses more than 16 variables.
     pub fn check(n: usize) -> Result<(), Refusal>
-        ensures { told result ≡ variables_refused 16 n }
+        ensures { result_err result ≡ variables_refused 16 n }
     {
         Room::check(n, 16)
     }

@@ -1,6 +1,6 @@
 //! Whether a finder takes so many variables, and what it then has room for.
 ghost use Rattle.std.specs.Prelude.{◌≡◌};
-ghost use Rattle.terms.specs.Refusals.{told};
+ghost use Rattle.std.specs.Result.{result_err};
 ghost use Rattle.finders.specs.Refused.{variables_refused};
 ghost use Rattle.tables.specs.Room.{room};
 
@@ -17,7 +17,7 @@ pub struct Room {
 impl Room {
     /// Refuses more variables than `most`.
     pub(crate) fn check(n: usize, most: usize) -> Result<(), Refusal>
-        ensures { told result ≡ variables_refused most n }
+        ensures { result_err result ≡ variables_refused most n }
     {
         if n > most {
             return Err(Refusal::TooManyVariables);

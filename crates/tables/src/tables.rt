@@ -1,8 +1,9 @@
 //! The clauses of a finder in two lent tables: making these, adding to them and reading them.
 ghost use Rattle.std.specs.Prelude.{◌≡◌, ◌↔◌, IsTrue, ℕ, ◌≤◌, length, None};
+ghost use Rattle.std.specs.Result.{result_err};
 ghost use Rattle.terms.specs.Clauses.{breaks};
 ghost use Rattle.terms.specs.Masks.{member};
-ghost use Rattle.terms.specs.Refusals.{told, unless_refused};
+ghost use Rattle.terms.specs.Refusals.{unless_refused};
 ghost use Rattle.finders.specs.Meanings.{Limited};
 ghost use Rattle.finders.specs.Questions.{ToldBroken};
 ghost use Rattle.finders.specs.Refused.{ask_refused, broken_refused};
@@ -76,7 +77,7 @@ impl<'a> Tables<'a> {
 
     /// Refuses the clause where it cannot be added.
     pub(crate) fn check_clause(&self, kind: ClauseKind, clause: &[i32]) -> Result<(), Refusal>
-        ensures { told result ≡ refused_as kind (meaning_of self.now) clause.now }
+        ensures { result_err result ≡ refused_as kind (meaning_of self.now) clause.now }
     {
         if clause.len() > 64 {
             Err(Refusal::ClauseTooLong)
@@ -95,8 +96,8 @@ impl<'a> Tables<'a> {
     #[tactic(auto, using(crate::proofs::Pushed::means_with_clause, crate::proofs::Pushed::limited_push))]
     pub(crate) fn add(&mut self, kind: ClauseKind, clause: &[i32]) -> Result<(), Refusal>
         requires { IsTrue (well_numbered (length (softs self.old.entries)) kind) }
-        ensures refusal { told result ≡ refused_as kind (meaning_of self.old) clause.now }
-        ensures meaning { meaning_of self.new ≡ unless_refused (told result) (with_clause kind (meaning_of self.old) clause.now) (meaning_of self.old) }
+        ensures refusal { result_err result ≡ refused_as kind (meaning_of self.old) clause.now }
+        ensures meaning { meaning_of self.new ≡ unless_refused (result_err result) (with_clause kind (meaning_of self.old) clause.now) (meaning_of self.old) }
         ensures limited { Limited (meaning_of self.new) }
     {
         let _ = &self.records;
@@ -145,7 +146,7 @@ impl<'a> Tables<'a> {
 
     /// Refuses to be asked for the set with the buffer where either does not fit.
     pub(crate) fn check_question(&self, set: SoftSet, buffer: &[u8]) -> Result<(), Refusal>
-        ensures { told result ≡ ask_refused (meaning_of self.now) set buffer.now }
+        ensures { result_err result ≡ ask_refused (meaning_of self.now) set buffer.now }
     {
         if buffer.len() < self.n {
             Err(Refusal::TooShort)
@@ -165,7 +166,7 @@ impl<'a> Tables<'a> {
 
     /// Which soft clauses the assignment in the first n bytes breaks.
     pub(crate) fn broken(&self, assignment: &[u8]) -> Result<SoftSet, Refusal>
-        ensures refusal { told result ≡ broken_refused (meaning_of self.now) assignment.now }
+        ensures refusal { result_err result ≡ broken_refused (meaning_of self.now) assignment.now }
         ensures answer { ToldBroken (meaning_of self.now) assignment.now result }
     {
         let assignment = assignment.get(..self.n).ok_or(Refusal::TooShort)?;

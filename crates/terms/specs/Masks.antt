@@ -1,5 +1,5 @@
 -- A set of numbers as one number, its mask: k is a member where bit k of the mask is one. No set is too wide for this.
-use Rattle.std.specs.Prelude.{◌≡◌, ℕ, zero, suc, ◌+◌, ◌/◌, ◌%◌, ◌^◌, ◌<◌, Bool, true, cond, not, ◌==◌, bit_and, nat_lt}
+use Rattle.std.specs.Prelude.{◌≡◌, ℕ, zero, suc, ◌+◌, ◌/◌, ◌%◌, ◌^◌, ◌<◌, Bool, true, if◌then◌else◌, not, ◌==◌, bit_and, nat_lt}
 
 unfoldable pub member : ℕ → ℕ → Bool
 member m k = m / 2 ^ k % 2 == 1
@@ -29,4 +29,4 @@ below n m = nat_lt m (2 ^ n)
 -- how many of the numbers below n are members
 unfoldable pub size : ℕ → ℕ → ℕ
 size zero m = 0
-size (suc n) m = size n m + cond (member m n) 1 0
+size (suc n) m = size n m + (if member m n then 1 else 0)

@@ -1,5 +1,5 @@
 -- The number of each refusal, its layer, and the layers' letters; which refusal a call gets, and what it leaves.
-use Rattle.std.specs.Prelude.{ℕ, Bool, cond, List, [], ◌∷◌, Some, None, Ok, Err, Option, Result}
+use Rattle.std.specs.Prelude.{ℕ, Bool, if◌then◌else◌, List, [], ◌∷◌, Some, None, Option}
 use Rattle.terms.specs.declared.refusals.Layer.{Layer}
 use Rattle.terms.specs.declared.refusals.Layer.TheVariants.{Text, Job, Finder, CoverMaker}
 use Rattle.terms.specs.declared.refusals.Part.{Part}
@@ -66,12 +66,7 @@ letter_of CoverMaker = 99
 -- the refusal of the earliest test that is met, with the tests in the order in which they count
 abbrev pub earliest : List (Bool × Refusal) → Option Refusal
 earliest [] = None
-earliest (t ∷ ts) = cond t.0 (Some t.1) (earliest ts)
-
--- the refusal that a result tells, if it is one
-abbrev pub told : {A : Type 0} → Result A Refusal → Option Refusal
-told (Ok x) = None
-told (Err r) = Some r
+earliest (t ∷ ts) = if t.0 then Some t.1 else earliest ts
 
 -- what a call leaves: what it should change where it is accepted, all as it was where it is refused
 abbrev pub unless_refused : {A : Type 0} → Option Refusal → A → A → A
