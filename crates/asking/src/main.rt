@@ -41,7 +41,7 @@ fn main(rt: HostRuntime) -> io::Result<()> {
 }
 
 /// Enters the clauses, asks for sets of wishes, enters one clause more, and asks again.
-fn play<F: Finder + Drop>(rt: &(impl Print + Alloc<A = Global>), mut finder: F) -> io::Result<()> {
+fn play<F: Finder + Drop>(rt: &(impl Print + AllocGlobal), mut finder: F) -> io::Result<()> {
     for clause in &NEEDS {
         show_added(rt, "Need", clause, finder.add_hard(clause))?;
     }
@@ -58,7 +58,7 @@ fn play<F: Finder + Drop>(rt: &(impl Print + Alloc<A = Global>), mut finder: F) 
 
 /// The clause, and whether it was added.
 fn show_added(
-    rt: &(impl Print + Alloc<A = Global>),
+    rt: &(impl Print + AllocGlobal),
     name: &str,
     clause: &[i32],
     outcome: Result<(), Refusal>,
@@ -71,7 +71,7 @@ fn show_added(
 }
 
 /// Asks for each of the sets, and says what was answered.
-fn ask_all<F: Finder>(rt: &(impl Print + Alloc<A = Global>), finder: &F) -> io::Result<()> {
+fn ask_all<F: Finder>(rt: &(impl Print + AllocGlobal), finder: &F) -> io::Result<()> {
     for numbers in &ASKED {
         let set = numbers
             .iter()
@@ -89,7 +89,7 @@ fn ask_all<F: Finder>(rt: &(impl Print + Alloc<A = Global>), finder: &F) -> io::
 
 /// The plan with the wishes that it breaks, or the wishes that stand against each other.
 fn show_answer<F: Finder>(
-    rt: &(impl Print + Alloc<A = Global>),
+    rt: &(impl Print + AllocGlobal),
     finder: &F,
     answer: Answer,
     plan: &[u8],

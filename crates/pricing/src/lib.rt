@@ -13,7 +13,7 @@ use thiserror::Error;
 use weights::{WeightKind, cost_of};
 
 /// The soft clauses that a plan breaks, and the exact total of their weights, if it can be held.
-#[derive(Clone, Copy)]
+#[derive(Clone, Copy, Debug, PartialEq, Eq)]
 pub struct Price<W> {
     pub broken: SoftSet,
     pub total: Option<W>,
