@@ -1,8 +1,8 @@
 -- What a finder has room for.
-use Rattle.std.specs.Prelude.{ℕ, cond}
+use Rattle.std.specs.Prelude.{ℕ, if◌then◌else◌}
 use Rattle.finders.specs.Refused.{too_many}
 use Rattle.tables.specs.declared.room.Room.{Room}
 
 -- for n variables, where the finder takes so many at most; no room at all with more
 abbrev pub room : ℕ → ℕ → Room
-room most n = cond (too_many most n) (record { variables = 0; softs = 0; places = 0 }) (record { variables = n; softs = 64; places = 32768 })
+room most n = if too_many most n then record { variables = 0; softs = 0; places = 0 } else record { variables = n; softs = 64; places = 32768 }
