@@ -6,7 +6,7 @@ ghost use Rattle.tables.specs.Entries.{LiesWithin, entry, as_entry};
 use crate::records::{Clause, ClauseRecord};
 use std::marker::Model;
 
-/// The clauses that are left of those with these records.
+/// Goes over the clauses with these records, and is seen as the list of those that are left.
 #[derive(Debug, Drop)]
 pub struct Clauses<'a> {
     records: &'a [ClauseRecord],
