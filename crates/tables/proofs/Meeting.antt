@@ -19,6 +19,7 @@ use Rattle.tables.proofs.Breaking.{breaks-nil, breaks-zero, breaks-suc}
 abbrev pub all_met : ℕ → List ℕ → List Entry → Bool
 all_met set a = list_all (λ e. met set a e.kind e.clause)
 
+-- what a run over the clauses answered, as one test of them all
 pub all_met_from_cases : (set : ℕ) (a : List ℕ) (es : List Entry) (r : Bool)
     → MatchBool r (AllWithin (λ e. met set a e.kind e.clause ≡ true) es 0 (length es)) ((k : ℕ) × (k < length es) × HoldsAt (λ e. met set a e.kind e.clause ≡ false) es k)
     → r ≡ all_met set a es
@@ -29,16 +30,19 @@ all_met_from_cases set a es false h = let none : Entry = record { kind = Hard; c
 abbrev Unbroken : ℕ → ℕ → List ℕ → List (List ℤ) → List (List ℤ) → Type 0
 Unbroken s set a hs cs = (satisfied_all hs a ≡ true) × ((k : ℕ) → member set (s + k) ≡ true → breaks a cs k ≡ false)
 
+-- a soft clause is met where it is satisfied, or not wanted
 soft_met : (wanted b : Bool) → Decides (not wanted || b) (wanted ≡ true → not b ≡ false)
 soft_met true true = (λ e h. refl, λ f. refl)
 soft_met true false = (λ e h. sym e, λ f. sym (f refl))
 soft_met false b = (λ e h. absurd (both_ways false refl h), λ f. refl)
 
+-- where neither the first soft clause nor a later one is broken, none is
 each_unbroken : (s set i : ℕ) (a : List ℕ) (c : List ℤ) (cs : List (List ℤ)) → i ≡ s → (member set i ≡ true → not (satisfied_by a c) ≡ false)
     → ((k : ℕ) → member set (suc s + k) ≡ true → breaks a cs k ≡ false) → (k : ℕ) → member set (s + k) ≡ true → breaks a (c ∷ cs) k ≡ false
 each_unbroken s set i a c cs same first later zero h = breaks-zero a c cs ∙ first (ap (member set) (let z : i ≡ s + 0 = omega arith in z) ∙ h)
 each_unbroken s set i a c cs same first later (suc k) h = breaks-suc a c cs k ∙ later k (ap (member set) (let z : suc s + k ≡ s + suc k = omega arith in z) ∙ h)
 
+-- all clauses are met exactly where the hard ones are satisfied and none of the set is broken
 decided : (s set : ℕ) (a : List ℕ) (es : List Entry) → numbered s es ≡ true → Decides (all_met set a es) (Unbroken s set a (hards es) (softs es))
 decided s set a [] n = (λ e. (refl, λ k h. breaks-nil a k), λ u. refl)
 decided s set a (e ∷ es) n =
@@ -63,6 +67,7 @@ decided s set a (e ∷ es) n =
         ))
         (Decides-and (met set a (Soft i) e.clause) (all_met set a es) (soft_met (member set i) (satisfied_by a e.clause)) (ih (suc s) w.1))
 
+-- the same where the numbers begin with 0, as in the tables
 pub met_decides : (set : ℕ) (a : List ℕ) (es : List Entry) → numbered 0 es ≡ true
     → Decides (all_met set a es) ((satisfied_all (hards es) a ≡ true) × ((j : ℕ) → member set j ≡ true → breaks a (softs es) j ≡ false))
 met_decides set a es n =

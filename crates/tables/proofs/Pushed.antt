@@ -1,8 +1,11 @@
 -- What the tables hold and mean with one clause more.
 use Rattle.std.proofs.Common.{◌≡◌, ℕ, ◌+◌, ◌-◌, ◌<◌, ◌≤◌, Bool, true, false, ◌&&◌, eqb, ltb, List, [], ◌∷◌, ◌++◌, map, length, take, drop, All, ℤ, None, sym, refl, ap, ◌∙◌, ap₂, arith}
 use mathlib.Core.Path.{fun_ext}
-use Rattle.std.proofs.lemmas.List.{map-append, append_assoc, append-nil, length-append, length-drop, drop-append-le, take-append-le}
+use Rattle.std.proofs.lemmas.List.{map-append, append-nil, length-append, length-drop, drop-append-le, take-append-le}
 use Rattle.std.proofs.lemmas.List.Elements.{All-head, All-tail, All-same, All-weaker, All-push}
+use Rattle.std.specs.List.{list_all}
+use Rattle.std.proofs.lemmas.List.Folds.{list_all-append}
+use Rattle.std.proofs.lemmas.Grind.{flat_map-append}
 use Rattle.std.proofs.Math.Seq.{drop-append_seam, take-length}
 use Rattle.std.proofs.lemmas.Bool.{or_parts, and_from, and_parts, ltb-false, eqb-false}
 use Rattle.terms.specs.Clauses.{satisfied_by, FirstBad}
@@ -10,7 +13,7 @@ use Rattle.terms.proofs.ClauseLaws.{all_good}
 use Rattle.terms.proofs.RefusalLaws.{passes}
 use Rattle.finders.specs.Meanings.{FinderMeaning, Limited}
 use Rattle.finders.specs.Refused.{too_long, has_bad, no_place}
-use Rattle.tables.specs.Entries.{Entry, entry, parts, hards, softs, hard_part, soft_part, satisfied_all, well_numbered, softs_after, numbered, LiesWithin}
+use Rattle.tables.specs.Entries.{Entry, entry, hards, softs, hard_part, soft_part, satisfied_all, well_numbered, softs_after, numbered, LiesWithin}
 use Rattle.tables.specs.Table.{Table, meaning_of, lacks_soft_place, refused_as, with_clause, with_entry}
 use Rattle.tables.specs.declared.records.ClauseKind.{ClauseKind}
 use Rattle.tables.specs.declared.records.ClauseKind.TheVariants.{Hard, Soft}
@@ -76,25 +79,14 @@ inside_push rs f g r inside longer one e =
     All-same (LiesWithin g) _ _ e (All-push (LiesWithin g) rs r (All-weaker (LiesWithin f) (LiesWithin g) more rs inside) one)
 
 -- ---- lists of clauses with one more at the end
-parts_push : (f : ClauseKind → List ℤ → List (List ℤ)) (es : List Entry) (e : Entry) → parts f (es ++ e ∷ []) ≡ parts f es ++ f e.kind e.clause
-parts_push f [] e = append-nil _
-parts_push f (x ∷ es) e =
-    ap (λ t. f x.kind x.clause ++ t) (parts_push f es e) ∙ sym (append_assoc (f x.kind x.clause) (parts f es) (f e.kind e.clause))
+hards_push : (es : List Entry) (e : Entry) → hards (es ++ e ∷ []) ≡ hards es ++ hard_part e.kind e.clause
+hards_push es e = flat_map-append (λ x. hard_part x.kind x.clause) es (e ∷ []) ∙ ap (λ cs. hards es ++ cs) (append-nil (hard_part e.kind e.clause))
 
-pub satisfied_all-append : (cs ds : List (List ℤ)) (a : List ℕ) → satisfied_all (cs ++ ds) a ≡ (satisfied_all cs a && satisfied_all ds a)
-satisfied_all-append [] ds a = refl
-satisfied_all-append (x ∷ cs) ds a = ap (λ t. satisfied_by a x && t) (satisfied_all-append cs ds a) ∙ and_assoc (satisfied_by a x) (satisfied_all cs a) (satisfied_all ds a)
-  where
-    and_assoc : (p q r : Bool) → (p && (q && r)) ≡ ((p && q) && r)
-    and_assoc true q r = refl
-    and_assoc false q r = refl
+softs_push : (es : List Entry) (e : Entry) → softs (es ++ e ∷ []) ≡ softs es ++ soft_part e.kind e.clause
+softs_push es e = flat_map-append (λ x. soft_part x.kind x.clause) es (e ∷ []) ∙ ap (λ cs. softs es ++ cs) (append-nil (soft_part e.kind e.clause))
 
-pub and-true : (b : Bool) → (b && true) ≡ b
-and-true true = refl
-and-true false = refl
-
-pub softs_push : (es : List Entry) (e : Entry) → length (softs (es ++ e ∷ [])) ≡ softs_after (length (softs es)) e.kind
-softs_push es e = ap length (parts_push soft_part es e) ∙ length-append (softs es) (soft_part e.kind e.clause) ∙ one e.kind
+pub length-softs_push : (es : List Entry) (e : Entry) → length (softs (es ++ e ∷ [])) ≡ softs_after (length (softs es)) e.kind
+length-softs_push es e = ap length (softs_push es e) ∙ length-append (softs es) (soft_part e.kind e.clause) ∙ one e.kind
   where
     one : (k : ClauseKind) → length (softs es) + length (soft_part k e.clause) ≡ softs_after (length (softs es)) k
     one Hard = omega arith
@@ -118,27 +110,33 @@ counted_push (Soft i) s limit h l = (omega arith, omega arith)
 
 pub limited_push : (t : Table) (k : ClauseKind) (xs : List ℤ) → Limited (meaning_of t) → refused_as k (meaning_of t) xs ≡ None
     → Limited (meaning_of (with_entry t (record { kind = k; clause = xs })))
-limited_push t Hard xs l fine = (l.0, omega (arith, softs_push t.entries (record { kind = Hard; clause = xs }), l.1))
-limited_push t (Soft i) xs l fine = (l.0, omega (arith, softs_push t.entries (record { kind = Soft i; clause = xs }), l.1, (accepted (Soft i) (meaning_of t) xs fine).soft_place))
+limited_push t Hard xs l fine = (l.0, omega (arith, length-softs_push t.entries (record { kind = Hard; clause = xs }), l.1))
+limited_push t (Soft i) xs l fine =
+    (l.0, omega (arith, length-softs_push t.entries (record { kind = Soft i; clause = xs }), l.1, (accepted (Soft i) (meaning_of t) xs fine).soft_place))
 
 -- ---- and what they mean
 pub means_with_clause : (t : Table) (k : ClauseKind) (xs : List ℤ) → with_clause k (meaning_of t) xs ≡ meaning_of (with_entry t (record { kind = k; clause = xs }))
 means_with_clause t Hard xs =
-    let hs = parts_push hard_part t.entries (record { kind = Hard; clause = xs }) in
-    let ss = parts_push soft_part t.entries (record { kind = Hard; clause = xs }) ∙ append-nil _ in
+    let hs = hards_push t.entries (record { kind = Hard; clause = xs }) in
+    let ss = softs_push t.entries (record { kind = Hard; clause = xs }) ∙ append-nil (softs t.entries) in
     let same : t.free_softs - 0 ≡ t.free_softs = omega arith in
+    let admits = λ (a : List ℕ). ap (list_all (satisfied_by a)) hs ∙ list_all-append (satisfied_by a) (hards t.entries) (xs ∷ [])
+    ∙ ap (λ b. satisfied_all (hards t.entries) a && b) (and-true (satisfied_by a xs)) in
     sym (λ j. record {
       n = t.n;
-      admits = fun_ext (λ a. ap (λ cs. satisfied_all cs a) hs ∙ satisfied_all-append (hards t.entries) (xs ∷ []) a
-          ∙ ap (λ b. satisfied_all (hards t.entries) a && b) (and-true (satisfied_by a xs))) j;
+      admits = fun_ext admits j;
       softs = ss j;
       free_softs = same j;
       free_clauses = t.free_clauses - 1;
       free_literals = t.free_literals - length xs;
     })
+  where
+    and-true : (b : Bool) → (b && true) ≡ b
+    and-true true = refl
+    and-true false = refl
 means_with_clause t (Soft i) xs =
-    let hs = parts_push hard_part t.entries (record { kind = Soft i; clause = xs }) ∙ append-nil _ in
-    let ss = parts_push soft_part t.entries (record { kind = Soft i; clause = xs }) in
+    let hs = hards_push t.entries (record { kind = Soft i; clause = xs }) ∙ append-nil (hards t.entries) in
+    let ss = softs_push t.entries (record { kind = Soft i; clause = xs }) in
     sym (λ j. record {
       n = t.n;
       admits = satisfied_all (hs j);

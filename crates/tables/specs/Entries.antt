@@ -1,5 +1,5 @@
 -- The clauses of a table in their order, each with its kind.
-use Rattle.std.specs.Prelude.{ℕ, suc, ◌+◌, ◌≤◌, Bool, true, false, ◌&&◌, List, [], ◌∷◌, ◌++◌, take, drop, ℤ, ◌==◌}
+use Rattle.std.specs.Prelude.{ℕ, suc, ◌+◌, ◌≤◌, Bool, true, false, ◌&&◌, List, [], ◌∷◌, take, drop, ℤ, ◌==◌}
 use Rattle.std.specs.List.{flat_map, list_all}
 use Rattle.terms.specs.Clauses.{satisfied_by}
 use Rattle.tables.specs.declared.records.Clause.{Clause}
@@ -35,14 +35,11 @@ abbrev pub soft_part : ClauseKind → List ℤ → List (List ℤ)
 soft_part Hard c = []
 soft_part (Soft k) c = c ∷ []
 
-abbrev pub parts : (ClauseKind → List ℤ → List (List ℤ)) → List Entry → List (List ℤ)
-parts f = flat_map (λ e. f e.kind e.clause)
-
 abbrev pub hards : List Entry → List (List ℤ)
-hards = parts hard_part
+hards = flat_map (λ e. hard_part e.kind e.clause)
 
 abbrev pub softs : List Entry → List (List ℤ)
-softs = parts soft_part
+softs = flat_map (λ e. soft_part e.kind e.clause)
 
 abbrev pub satisfied_all : List (List ℤ) → List ℕ → Bool
 satisfied_all cs a = list_all (satisfied_by a) cs

@@ -15,7 +15,7 @@ table_of t = record {
   free_literals = t.literals.free;
 }
 
-pub record Valid (t : Inside) : Type 0 where
+pub record IsValid (t : Inside) : Type 0 where
   pub limited : Limited (meaning_of (table_of t))
   -- where a clause begins fits a record
   pub roomy : length t.literals.items + t.literals.free ≤ 32768

@@ -6,7 +6,7 @@ ghost use Rattle.tables.specs.Entries.{LiesWithin, entry, as_entry};
 use crate::records::{Clause, ClauseRecord};
 use std::marker::Model;
 
-/// The clauses that are left of those with these records.
+/// Goes over the clauses with these records, and is seen as the list of those that are left.
 #[derive(Debug, Drop)]
 pub struct Clauses<'a> {
     records: &'a [ClauseRecord],
@@ -44,8 +44,8 @@ impl<'a> Iterator for Clauses<'a> {
     fn next(&mut self) -> Option<Clause<'a>> {
         let (record, others) = self.records.split_first()?;
         self.records = others;
-        let start = record.place as usize;
-        let end = start + record.size as usize;
+        let start = usize::from(record.place);
+        let end = start + usize::from(record.size);
         Some(Clause {
             kind: record.kind,
             literals: &self.literals[start..end],

@@ -37,7 +37,7 @@ impl ClauseKind {
     {
         match self {
             ClauseKind::Hard => true,
-            ClauseKind::Soft(number) => set.has(number as usize),
+            ClauseKind::Soft(number) => set.has(usize::from(number)),
         }
     }
 }

@@ -36,11 +36,11 @@ impl<'a> Model for Tables<'a> {
 
     ghost Value = { Table };
 
-    ghost use Rattle.tables.specs.Tables.{table_of, Valid};
+    ghost use Rattle.tables.specs.Tables.{table_of, IsValid};
 
     ghost view = { table_of };
 
-    ghost invariant = { Valid };
+    ghost invariant = { IsValid };
 }
 
 impl<'a> Tables<'a> {
@@ -100,6 +100,7 @@ impl<'a> Tables<'a> {
         ensures meaning { meaning_of self.new ≡ unless_refused (result_err result) (with_clause kind (meaning_of self.old) clause.now) (meaning_of self.old) }
         ensures limited { Limited (meaning_of self.new) }
     {
+        // The proof learns here what always holds of the tables.
         let _ = &self.records;
         self.check_clause(kind, clause)?;
         self.push(kind, clause);
@@ -186,7 +187,7 @@ impl<'a> Tables<'a> {
             if let ClauseKind::Soft(number) = clause.kind
                 && !satisfies(assignment, clause.literals)
             {
-                broken = broken.insert(number as usize);
+                broken = broken.insert(usize::from(number));
             }
         }
         broken

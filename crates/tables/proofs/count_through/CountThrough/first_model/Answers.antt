@@ -11,6 +11,7 @@ use Rattle.tables.proofs.count_through.CountThrough.first_model.Goals as goal
 all_turns : (n e : ℕ) → n ≤ 16 → e ≡ 1 * 2 ^ n % 4294967296 → e ≡ 2 ^ n
 all_turns n e h is = let low = pow_mono {i = n} {j = 16} h in omega arith
 
+-- what is found among the numbers of all assignments is a model, and where none is found no assignment is one
 found : (m : FinderMeaning) (set e : ℕ) (r : Option ℕ) → m.n ≤ 16 → e ≡ 1 * 2 ^ m.n % 4294967296
     → MatchOption r ((k : ℕ) → 0 ≤ k → k < e → Meets m set (digits m.n k) → ⊥)
     (λ i. (0 ≤ i) × (i < e) × Meets m set (digits m.n i) × ((k : ℕ) → 0 ≤ k → k < i → Meets m set (digits m.n k) → ⊥))

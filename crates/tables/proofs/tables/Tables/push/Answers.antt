@@ -4,7 +4,7 @@ use Rattle.std.proofs.lemmas.List.Elements.{All-append, All-from_get_or}
 use Rattle.terms.specs.Clauses.{bad_literal}
 use Rattle.tables.specs.Entries.{Entry, entry, softs, numbered, well_numbered, softs_after}
 use Rattle.tables.specs.Table.{Table, meaning_of, refused_as, with_entry}
-use Rattle.tables.proofs.Pushed.{Accepted, accepted, entries_push, inside_push, numbered_push, softs_push, counted_push}
+use Rattle.tables.proofs.Pushed.{Accepted, accepted, entries_push, inside_push, numbered_push, length-softs_push, counted_push}
 use Rattle.tables.proofs.tables.Tables.push.Goals as goal
 
 -- what is known of the clause, said of what the tables hold
@@ -28,7 +28,7 @@ invariant_of-self c =
     let long = ap length c.extend.ensures.items ∙ length-append t.literals.items xs in
     let held = entries_push t.records.items t.literals.items xs k v.inside start c.push.ensures.items c.extend.ensures.items in
     let count = counted_push k t.softs t.limit known.0.soft_place v.fitting in
-    let more = ap (λ s. length (softs s)) held ∙ softs_push es e ∙ ap (λ s. softs_after s k) v.counted ∙ sym c.softs_after-self-inside.ensures in
+    let more = ap (λ s. length (softs s)) held ∙ length-softs_push es e ∙ ap (λ s. softs_after s k) v.counted ∙ sym c.softs_after-self-inside.ensures in
     let fitting : c.softs_after-self-inside.result ≤ t.limit = subst (λ s. s ≤ t.limit) (sym c.softs_after-self-inside.ensures) count.1 in
     record {
       limited = (v.limited.0, omega (arith, more, fitting, v.limited.1, v.counted, v.fitting));
