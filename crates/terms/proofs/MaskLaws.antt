@@ -10,6 +10,7 @@ use Rattle.std.proofs.lemmas.Nat.{and_mask, ones-le, le-div, div_below, leading_
 use Rattle.std.proofs.lemmas.Nat.Bits.{bit_at_and, bit_at_or, bit_at_xor, bit_at-zero, bit_at-pow_same, bit_at-pow_other, bit_at_ones, bit_at_ones_above, bit_at_above, same_from_bits}
 use Rattle.terms.specs.Masks.{member, subset, intersect, below, Subset, Intersect, Below, size}
 
+-- a member is a bit that is one, and the library says which bits the operations make
 member_bit : (m k : ℕ) → member m k ≡ eqb (bit_at m k) 1
 unfolding member
 member_bit m k = refl
@@ -52,6 +53,7 @@ pub below_pow : (n : ℕ) → n < 2 ^ n
 below_pow zero = omega arith
 below_pow (suc n) = omega (arith, below_pow n, pow-suc 2 n)
 
+-- a mask that is not zero has a greatest member
 greatest_member : (m : ℕ) → 0 < m → (k : ℕ) × (member m k ≡ true) × (m < 2 ^ suc k)
 greatest_member m some = let t = leading_top m m some (below_pow m) in (t.0, grind (arith, bit_laws, le-div, div_below, pow_pos, pow-suc), omega arith)
 
@@ -75,6 +77,7 @@ unfolding intersect
 intersect_members x y = (λ e. grind (arith, bit_laws, greatest_member (bit_and x y)), λ w. grind (arith, bit_laws, bit_at_and x y w.0))
 
 -- ---- how many
+-- a shift by n drops the members below n
 ones_above : (n m : ℕ) → ones m ≡ ones (m / 2 ^ n) + size n m
 unfolding size
 ones_above zero m = omega (arith, ap ones (div-one m))
