@@ -22,12 +22,6 @@ pub member_past : (n m k : ℕ) → m < 2 ^ n → n ≤ k → member m k ≡ fal
 member_past n m k h l = grind (arith, bit_laws)
 
 -- ---- the members of what the operations make
-pub member_none : (k : ℕ) → member 0 k ≡ false
-member_none k = grind (arith, bit_laws)
-
-pub member-and : (x y k : ℕ) → member (bit_and x y) k ≡ (member x k && member y k)
-member-and x y k = grind (arith, bit_laws)
-
 pub member-or : (x y k : ℕ) → member (bit_or x y) k ≡ (member x k || member y k)
 member-or x y k = grind (arith, bit_laws)
 
