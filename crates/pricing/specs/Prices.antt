@@ -1,5 +1,5 @@
 -- What a plan breaks of a list of soft clauses, and what it pays for that.
-use Rattle.std.specs.Prelude.{◌≡◌, ℕ, if◌then◌else◌, List, length, map, ℤ, Some, None, Option, ◌==◌, nat_lt}
+use Rattle.std.specs.Prelude.{◌≡◌, ℕ, if◌then◌else◌, List, length, map, ℤ, Some, None, Option, ◌==◌, nat_lt, codes}
 use Rattle.std.specs.Borrow.{Bor}
 use Rattle.std.specs.List.{zip}
 use Rattle.terms.specs.Clauses.{breaks}
@@ -21,6 +21,11 @@ unpriced cs ws =
     if nat_lt capacity (length cs) then Some TooMany
     else if length cs == length ws then None
     else Some Unmatched
+
+-- what is printed of it
+abbrev pub text_of : Unpriced → List ℕ
+text_of TooMany = codes "There are more than 64 soft clauses"
+text_of Unmatched = codes "Not each soft clause has its weight"
 
 -- the broken clauses by their numbers, and the cost of the plan, if it can be held
 pub record Priced {W : Type 0} (K : Kind W) (a : List ℕ) (cs : List (List ℤ)) (ws : List W) (p : Price W) : Type 0 where

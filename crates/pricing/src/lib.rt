@@ -1,15 +1,16 @@
 //! What a plan breaks of a list of soft clauses, and what it pays for that.
 #![tactic(auto, using(crate::proofs::PriceLaws::price_laws))]
 
-ghost use Rattle.std.specs.Prelude.{◌≡◌, ℕ, ◌&&◌, IfOk};
+ghost use Rattle.std.specs.Prelude.{◌≡◌, ℕ, ◌&&◌, Some, IfOk};
 ghost use Rattle.std.specs.Result.{result_err};
 ghost use Rattle.terms.specs.Clauses.{breaks};
 ghost use Rattle.terms.specs.Masks.{member};
 ghost use Rattle.terms.specs.Sets.{fits};
-ghost use Rattle.pricing.specs.Prices.{clauses_of, unpriced, Priced};
+ghost use Rattle.pricing.specs.Prices.{clauses_of, unpriced, text_of, Priced};
 
+use std::error::Error;
+use std::fmt;
 use terms::{SoftSet, satisfies};
-use thiserror::Error;
 use weights::{WeightKind, cost_of};
 
 /// The soft clauses that a plan breaks, and the exact total of their weights, if it can be held.
@@ -20,15 +21,26 @@ pub struct Price<W> {
 }
 
 /// Why soft clauses cannot be priced.
-#[derive(Clone, Copy, Debug, PartialEq, Eq, Error)]
+#[derive(Clone, Copy, Debug, PartialEq, Eq)]
 pub enum Unpriced {
     /// There are more clauses than the 64 that a set can number.
-    #[error("There are more than 64 soft clauses")]
     TooMany,
     /// There is not one weight for each clause.
-    #[error("Not each soft clause has its weight")]
     Unmatched,
 }
+
+impl fmt::Display for Unpriced {
+    ghost output = { λ error. Some (text_of error) };
+
+    fn fmt<W: fmt::Write>(&self, f: &mut fmt::Formatter<W>) -> fmt::Result {
+        match self {
+            Unpriced::TooMany => write!(f, "There are more than 64 soft clauses"),
+            Unpriced::Unmatched => write!(f, "Not each soft clause has its weight"),
+        }
+    }
+}
+
+impl Error for Unpriced {}
 
 /// Prices a plan: weight k is that of soft clause k.
 pub fn price_plan<W: WeightKind>(

@@ -1,6 +1,7 @@
 -- Which soft clauses an assignment breaks, clause by clause through the tables.
 use Rattle.std.proofs.Common.{◌≡◌, ℕ, zero, suc, ◌+◌, ◌<◌, Bool, true, false, not, ◌&&◌, ◌||◌, eqb, ltb, List, [], ◌∷◌, ◌++◌, length, get_or, ℤ, sym, refl, ap, ◌∙◌, ap₂, arith}
 use Rattle.std.proofs.lemmas.Bool.{and_parts, and_left, or_from, eq-eqb, ne_eqb, eqb-true, lt-ltb, le-ltb}
+use Rattle.std.proofs.Math.Bool.{or-false}
 use Rattle.std.proofs.lemmas.Bool.Decides.{nat_tests}
 use Rattle.terms.specs.Clauses.{satisfied_by, breaks}
 use Rattle.tables.specs.Entries.{Entry, softs, soft_part, numbered, well_numbered, softs_after}
@@ -25,10 +26,6 @@ breaks-zero a c cs = ap (λ b. b && not (satisfied_by a c)) (lt-ltb 0 (suc (leng
 
 pub breaks-suc : (a : List ℕ) (c : List ℤ) (cs : List (List ℤ)) (k : ℕ) → breaks a (c ∷ cs) (suc k) ≡ breaks a cs k
 breaks-suc a c cs k = ap (λ b. b && not (satisfied_by a (get_or cs k []))) (let e : ltb (suc k) (suc (length cs)) ≡ ltb k (length cs) = grind (arith, nat_tests) in e)
-
-or-false : (x : Bool) → (x || false) ≡ x
-or-false true = refl
-or-false false = refl
 
 -- ---- where the numbers begin with s, none below s is broken, and number s + k is where the soft clause at k is
 none_below : (s : ℕ) (es : List Entry) (a : List ℕ) (j : ℕ) → numbered s es ≡ true → j < s → broken_in es a j ≡ false

@@ -7,6 +7,7 @@ use Rattle.std.specs.List.{list_all}
 use Rattle.std.proofs.lemmas.List.Folds.{list_all-append}
 use Rattle.std.proofs.lemmas.Grind.{flat_map-append}
 use Rattle.std.proofs.Math.Seq.{drop-append_seam, take-length}
+use Rattle.std.proofs.Math.Bool.{and-true}
 use Rattle.std.proofs.lemmas.Bool.{or_parts, and_from, and_parts, ltb-false, eqb-false}
 use Rattle.terms.specs.Clauses.{satisfied_by, FirstBad}
 use Rattle.terms.proofs.ClauseLaws.{all_good}
@@ -130,10 +131,6 @@ means_with_clause t Hard xs =
       free_clauses = t.free_clauses - 1;
       free_literals = t.free_literals - length xs;
     })
-  where
-    and-true : (b : Bool) → (b && true) ≡ b
-    and-true true = refl
-    and-true false = refl
 means_with_clause t (Soft i) xs =
     let hs = hards_push t.entries (record { kind = Soft i; clause = xs }) ∙ append-nil (hards t.entries) in
     let ss = softs_push t.entries (record { kind = Soft i; clause = xs }) in

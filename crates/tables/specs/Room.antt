@@ -1,5 +1,5 @@
 -- What a finder has room for.
-use Rattle.std.specs.Prelude.{ℕ, if◌then◌else◌}
+use Rattle.std.specs.Prelude.{ℕ, ◌≤◌, if◌then◌else◌}
 use Rattle.finders.specs.Refused.{too_many}
 use Rattle.tables.specs.declared.room.Room.{Room}
 
@@ -8,3 +8,7 @@ abbrev pub room : ℕ → ℕ → Room
 room most n =
     if too_many most n then record { variables = 0; softs = 0; places = 0 }
     else record { variables = n; softs = 64; places = 32768 }
+
+-- no finder has more variables, soft places or places in a table
+abbrev pub IsWithinLimits : Room → Type 0
+IsWithinLimits r = (r.variables ≤ 256) × (r.softs ≤ 64) × (r.places ≤ 32768)

@@ -38,7 +38,7 @@ impl<'a> CountThrough<'a> {
         ensures { finder_meaning result ≡ made_in (room 16 n) (length records.old) (length literals.old) }
     {
         CountThrough {
-            tables: Tables::new(records, literals, n, 16),
+            tables: Tables::new(records, literals, Room::new(n, 16)),
         }
     }
 
@@ -126,7 +126,7 @@ fn write_digits(bytes: &mut [u8], number: u32)
 {
     let mut rest = number;
     for byte in bytes.iter_mut() {
-        *byte = (rest % 2) as u8;
+        *byte = u8::from(rest % 2 == 1);
         rest /= 2;
     }
 }

@@ -7,7 +7,7 @@ ghost use Rattle.tables.specs.Room.{room};
 use terms::Refusal;
 
 /// How many variables a finder has, how many soft clauses it takes, and how long its tables can be.
-#[derive(Clone, Copy, PartialEq, Eq, Debug)]
+#[derive(Clone, Copy, Default, PartialEq, Eq, Debug)]
 pub struct Room {
     pub(crate) variables: usize,
     pub(crate) softs: usize,
@@ -29,17 +29,12 @@ impl Room {
     pub(crate) fn new(n: usize, most: usize) -> Self
         ensures { result ≡ room most n }
     {
-        match Room::check(n, most) {
-            Ok(()) => Room {
+        Room::check(n, most)
+            .map(|()| Room {
                 variables: n,
                 softs: 64,
                 places: 32768,
-            },
-            Err(_) => Room {
-                variables: 0,
-                softs: 0,
-                places: 0,
-            },
-        }
+            })
+            .unwrap_or_default()
     }
 }

@@ -9,7 +9,7 @@ ghost use Rattle.finders.specs.Questions.{ToldBroken};
 ghost use Rattle.finders.specs.Refused.{ask_refused, broken_refused};
 ghost use Rattle.tables.specs.Entries.{softs, numbered, well_numbered};
 ghost use Rattle.tables.specs.Table.{meaning_of, made_in, refused_as, with_clause, with_entry};
-ghost use Rattle.tables.specs.Room.{room};
+ghost use Rattle.tables.specs.Room.{IsWithinLimits};
 ghost use Rattle.tables.specs.Trying.{Meets};
 
 use crate::clauses::Clauses;
@@ -44,19 +44,12 @@ impl<'a> Model for Tables<'a> {
 }
 
 impl<'a> Tables<'a> {
-    /// Tables without a clause, for a finder that takes up to `most` variables.
-    /// With more than that there are no variables and no places.
-    pub(crate) fn new(
-        records: &'a mut [ClauseRecord],
-        literals: &'a mut [i32],
-        n: usize,
-        most: usize,
-    ) -> Self
-        requires { most ≤ 256 }
-        ensures meaning { meaning_of result ≡ made_in (room most n) (length records.old) (length literals.old) }
+    /// Tables without a clause, used as far as there is room.
+    pub(crate) fn new(records: &'a mut [ClauseRecord], literals: &'a mut [i32], room: Room) -> Self
+        requires { IsWithinLimits room }
+        ensures meaning { meaning_of result ≡ made_in room (length records.old) (length literals.old) }
         ensures limited { Limited (meaning_of result) }
     {
-        let room = Room::new(n, most);
         let clause_places = records.len().min(room.places);
         let literal_places = literals.len().min(room.places);
         Tables {

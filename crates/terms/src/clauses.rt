@@ -1,6 +1,6 @@
 //! Literals are `i32`, clauses `&[i32]`, assignments byte slices with variable v at place v - 1.
 ghost use Rattle.std.specs.Prelude.{◌≡◌, pos, if◌then◌else◌, ◌↔◌, IsTrue, int_lt};
-ghost use Rattle.terms.specs.Clauses.{binary, Binary, true_in, satisfied_by, Satisfied, bad_literal, first_bad, FirstBad};
+ghost use Rattle.terms.specs.Clauses.{binary, Binary, true_in, satisfied_by, Satisfied, variable, bad_literal, first_bad, FirstBad};
 
 /// Whether each byte is 0 or 1, as in an assignment.
 pub fn is_binary(bytes: &[u8]) -> bool
@@ -22,11 +22,10 @@ pub fn satisfies(assignment: &[u8], clause: &[i32]) -> bool
 fn is_true(assignment: &[u8], literal: i32) -> bool
     ensures { result ≡ true_in assignment.now literal }
 {
-    let variable = literal.unsigned_abs() as usize;
-    if variable == 0 || variable > assignment.len() {
-        return false;
-    }
-    assignment[variable - 1] == wanted(literal)
+    variable(literal)
+        .checked_sub(1)
+        .and_then(|place| assignment.get(place))
+        .is_some_and(|value| *value == wanted(literal))
 }
 
 /// The value of its variable that makes a literal true.
@@ -48,6 +47,13 @@ pub fn first_bad_literal(clause: &[i32], n: usize) -> Option<usize>
 fn is_bad(literal: i32, n: usize) -> bool
     ensures { result ≡ bad_literal n literal }
 {
-    let variable = literal.unsigned_abs() as usize;
+    let variable = variable(literal);
     variable == 0 || variable > n
+}
+
+/// The variable of a literal, 0 for the literal 0.
+fn variable(literal: i32) -> usize
+    ensures { result ≡ variable literal }
+{
+    literal.unsigned_abs() as usize
 }
