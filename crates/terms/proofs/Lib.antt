@@ -1,4 +1,5 @@
 pub mod ClauseLaws
 pub mod MaskLaws
+pub mod MemberLaws
 pub mod RefusalLaws
 pub mod WordLaws

@@ -11,7 +11,7 @@ use Rattle.std.proofs.lemmas.Nat.Bits.{bit_at_and, bit_at_or, bit_at_xor, bit_at
 use Rattle.terms.specs.Masks.{member, subset, intersect, below, Subset, Intersect, Below, size}
 
 -- a member is a bit that is one, and the library says which bits the operations make
-member_bit : (m k : ℕ) → member m k ≡ eqb (bit_at m k) 1
+pub member_bit : (m k : ℕ) → member m k ≡ eqb (bit_at m k) 1
 unfolding member
 member_bit m k = refl
 

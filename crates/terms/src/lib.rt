@@ -7,7 +7,7 @@ mod soft_sets;
 
 pub use clauses::{first_bad_literal, is_binary, satisfies};
 pub use refusals::{Layer, Part, Refusal};
-pub use soft_sets::SoftSet;
+pub use soft_sets::{Members, SoftSet};
 
 #[cfg(test)]
 mod tests {

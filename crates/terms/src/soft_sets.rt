@@ -1,9 +1,10 @@
-//! Sets of soft numbers. A set means its mask, the number whose binary digits are one at the members.
+//! Sets of soft numbers, and their members in order. A set means its mask, the number whose binary digits are one at the members.
 #![tactic(auto, using(crate::proofs::WordLaws::word_laws), unfolding(crate::specs::Masks::member, crate::specs::Masks::subset, crate::specs::Masks::intersect))]
 
-ghost use Rattle.std.specs.Prelude.{◌≡◌, ◌↔◌, ℕ, ◌-◌, ◌^◌, min, false, not, ◌&&◌, ◌||◌, IsTrue, ◌==◌, nat_lt};
+ghost use Rattle.std.specs.Prelude.{◌≡◌, ◌↔◌, ℕ, ◌-◌, ◌^◌, min, false, not, ◌&&◌, ◌||◌, IsTrue, ◌==◌, nat_lt, true, ◌<◌, ◌≤◌, IsNone, IfSome};
+ghost use Rattle.std.specs.Iterator.{YieldsFirst, item_count};
 ghost use Rattle.terms.specs.Masks.{member, Subset, Intersect, Below, subset, intersect, below, size};
-ghost use Rattle.terms.specs.Sets.{capacity, fits};
+ghost use Rattle.terms.specs.Sets.{capacity, fits, members_of};
 
 use std::marker::Model;
 
@@ -117,6 +118,56 @@ impl SoftSet {
         ensures { result ≡ size capacity self }
     {
         self.bits.count_ones() as usize
+    }
+
+    /// The lowest member.
+    pub fn first(self) -> Option<usize>
+        ensures none { IsNone result ↔ ((k : ℕ) → member self k ≡ false) }
+        ensures fits { IfSome result (λ number. number < capacity) }
+        ensures member { IfSome result (λ number. member self number ≡ true) }
+        ensures least { IfSome result (λ number. (k : ℕ) → member self k ≡ true → number ≤ k) }
+    {
+        if self.is_empty() {
+            None
+        } else {
+            Some(self.bits.trailing_zeros() as usize)
+        }
+    }
+
+    /// The members, lowest first.
+    pub fn members(self) -> Members
+        ensures { result ≡ members_of self }
+    {
+        Members { set: self }
+    }
+}
+
+/// Goes over the members of a set, and is seen as the list of those that are left.
+#[derive(Debug, Drop)]
+pub struct Members {
+    set: SoftSet,
+}
+
+impl Model for Members {
+    ghost use Rattle.std.specs.Prelude.{List, ℕ};
+    ghost use Rattle.terms.specs.Sets.{members_of};
+
+    ghost Value = { List ℕ };
+
+    ghost view = { λ m. members_of m.set };
+}
+
+impl Iterator for Members {
+    type Item = usize;
+
+    ghost next_gives = { YieldsFirst (λ rest. rest) };
+
+    ghost remaining = { item_count (λ rest. rest) };
+
+    fn next(&mut self) -> Option<usize> {
+        let number = self.set.first()?;
+        self.set = self.set.remove(number);
+        Some(number)
     }
 }
 

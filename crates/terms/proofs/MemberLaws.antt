@@ -1,0 +1,32 @@
+-- Laws of the list of a set's members.
+use Rattle.std.proofs.Common.{◌≡◌, ℕ, zero, suc, ◌+◌, ◌^◌, ◌<◌, ◌≤◌, List, [], ◌∷◌, Bool, true, false, not, ◌&&◌, eqb, refl, arith}
+use Rattle.std.specs.List.{filter, range_with_len}
+use Rattle.std.proofs.lemmas.Bool.Decides.{nat_tests}
+use Rattle.terms.specs.Masks.{member}
+use Rattle.terms.specs.Sets.{members_of}
+
+module _ (m : ℕ) where
+  none_listed : (a n : ℕ) → ((k : ℕ) → member m k ≡ false) → filter (member m) (range_with_len a n) ≡ []
+  none_listed a zero none = refl
+  none_listed a (suc n) none = rw (none a) (none_listed (a + 1) n none)
+
+  pub members_of_none : ((k : ℕ) → member m k ≡ false) → members_of m ≡ []
+  unfolding members_of
+  members_of_none = none_listed 0 64
+
+  -- r is m without t
+  module _ (r t : ℕ) (without : (k : ℕ) → member r k ≡ (member m k && not (eqb t k))) where
+    listed_past : (a n : ℕ) → t < a → filter (member m) (range_with_len a n) ≡ filter (member r) (range_with_len a n)
+    listed_past a zero past = refl
+    listed_past a (suc n) past = grind (arith, nat_tests, without a, listed_past (a + 1) n)
+
+    -- where t is the least member
+    module _ (is : member m t ≡ true) (least : (k : ℕ) → member m k ≡ true → t ≤ k) where
+      listed_from : (a n : ℕ) → a ≤ t → t < a + n → filter (member m) (range_with_len a n) ≡ t ∷ filter (member r) (range_with_len a n)
+      listed_from a zero from within = absurd (omega arith)
+      listed_from a (suc n) from within = grind (arith, nat_tests, without a, least a, listed_past (a + 1) n, listed_from (a + 1) n)
+
+      pub members_of_least : t < 64 → members_of m ≡ t ∷ members_of r
+      unfolding members_of
+      members_of_least = listed_from 0 64 (omega arith)
+
