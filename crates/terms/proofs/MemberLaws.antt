@@ -1,5 +1,5 @@
 -- Laws of the list of a set's members.
-use Rattle.std.proofs.Common.{◌≡◌, ℕ, zero, suc, ◌+◌, ◌^◌, ◌<◌, ◌≤◌, List, [], ◌∷◌, Bool, true, false, not, ◌&&◌, eqb, refl, arith}
+use Rattle.std.proofs.Common.{◌≡◌, ℕ, zero, suc, ◌+◌, ◌<◌, ◌≤◌, [], ◌∷◌, true, false, not, ◌&&◌, eqb, refl, arith}
 use Rattle.std.specs.List.{filter, range_with_len}
 use Rattle.std.proofs.lemmas.Bool.Decides.{nat_tests}
 use Rattle.terms.specs.Masks.{member}
@@ -29,4 +29,3 @@ module _ (m : ℕ) where
       pub members_of_least : t < 64 → members_of m ≡ t ∷ members_of r
       unfolding members_of
       members_of_least = listed_from 0 64 (omega arith)
-

@@ -69,6 +69,17 @@ mod tests {
     }
 
     #[test]
+    fn members_come_lowest_first(rt: HostRuntime) {
+        assert_eq!(rt; SoftSet::empty().first(), None);
+        assert_eq!(rt; SoftSet::empty().members().next(), None);
+        let set = SoftSet::empty().insert(63).insert(0).insert(5);
+        assert_eq!(rt; set.first(), Some(0));
+        assert!(rt; set.members().eq([0, 5, 63]));
+        assert_eq!(rt; set.remove(0).remove(5).first(), Some(63));
+        assert!(rt; SoftSet::full(64).members().eq(0..64));
+    }
+
+    #[test]
     fn the_full_part_decides_the_layer(rt: HostRuntime) {
         let finder = Refusal::NoSoftPlace(Part::Finder);
         let maker = Refusal::NoSoftPlace(Part::CoverMaker);
