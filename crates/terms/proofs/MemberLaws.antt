@@ -1,7 +1,10 @@
 -- Laws of the list of a set's members.
-use Rattle.std.proofs.Common.{◌≡◌, ℕ, zero, suc, ◌+◌, ◌<◌, ◌≤◌, [], ◌∷◌, true, false, not, ◌&&◌, eqb, refl, arith}
-use Rattle.std.specs.List.{filter, range_with_len}
+use Rattle.std.proofs.Common.{◌≡◌, ℕ, zero, suc, ◌+◌, ◌<◌, ◌≤◌, [], ◌∷◌, true, false, not, ◌&&◌, eqb, refl, arith, length}
+use Rattle.std.specs.List.{filter, range_with_len, All}
 use Rattle.std.proofs.lemmas.Bool.Decides.{nat_tests}
+use Rattle.std.proofs.lemmas.List.Elements.{All-filter}
+use Rattle.std.proofs.lemmas.List.FromFn.{length-range_with_len, get_or-range_with_len}
+use Rattle.std.proofs.lemmas.List.Sums.{length-filter, count_by-le-length}
 use Rattle.terms.specs.Masks.{member}
 use Rattle.terms.specs.Sets.{members_of}
 
@@ -29,3 +32,19 @@ module _ (m : ℕ) where
       pub members_of_least : t < 64 → members_of m ≡ t ∷ members_of r
       unfolding members_of
       members_of_least = listed_from 0 64 (omega arith)
+
+-- ---- how great, and how many
+module _ (m n : ℕ) where
+  listed_fit : All (λ k. k < n) (filter (member m) (range_with_len 0 n))
+  listed_fit = All-filter (member m) (λ k. k < n) (range_with_len 0 n) (λ i d l. omega (arith, get_or-range_with_len 0 n i d, length-range_with_len 0 n))
+
+  listed_length : length (filter (member m) (range_with_len 0 n)) ≤ n
+  listed_length = omega (arith, length-filter (member m), count_by-le-length (member m), length-range_with_len 0 n)
+
+pub members_of_fit : (m : ℕ) → All (λ k. k < 64) (members_of m)
+unfolding members_of
+members_of_fit m = listed_fit m 64
+
+pub length-members_of : (m : ℕ) → length (members_of m) ≤ 64
+unfolding members_of
+length-members_of m = listed_length m 64

@@ -8,7 +8,7 @@ use Rattle.std.proofs.lemmas.Grind.{one_shifted}
 use Rattle.std.proofs.lemmas.Bool.Decides.{nat_tests}
 use Rattle.terms.specs.Masks.{member, below}
 use Rattle.terms.proofs.MaskLaws.{member_bit, member_past, member_minus, member_one, member_full, member-or, none_members, subset_members, below_members, intersect_members, size-ones}
-use Rattle.terms.proofs.MemberLaws.{members_of_none, members_of_least}
+use Rattle.terms.proofs.MemberLaws.{members_of_none, members_of_least, members_of_fit, length-members_of}
 
 -- a word has no member from 64 on
 pub past_word : (w k : ℕ) → w < 2 ^ 64 → 64 ≤ k → member w k ≡ false
@@ -32,4 +32,4 @@ module _ (w : ℕ) (some : 0 < w) (fits : w < 2 ^ 64) where
   pub trailing_least : (k : ℕ) → member w k ≡ true → trailing_zeros w64 w ≤ k
   trailing_least k is = grind (arith, nat_tests, member_bit, bit_at-trailing_zeros w64 w)
 
-pub ruleset word_laws = (member-or, past_word, member_complement, one_shifted, member_one, member_full, member_ones, below_quotient, none_members, subset_members, below_members, intersect_members, size-ones, trailing_member, trailing_least, members_of_none, members_of_least)
+pub ruleset word_laws = (member-or, past_word, member_complement, one_shifted, member_one, member_full, member_ones, below_quotient, none_members, subset_members, below_members, intersect_members, size-ones, trailing_member, trailing_least, members_of_none, members_of_least, members_of_fit, length-members_of)

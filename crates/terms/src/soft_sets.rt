@@ -1,7 +1,7 @@
 //! Sets of soft numbers, and their members in order. A set means its mask, the number whose binary digits are one at the members.
 #![tactic(auto, using(crate::proofs::WordLaws::word_laws), unfolding(crate::specs::Masks::member, crate::specs::Masks::subset, crate::specs::Masks::intersect))]
 
-ghost use Rattle.std.specs.Prelude.{◌≡◌, ◌↔◌, ℕ, ◌-◌, ◌^◌, min, false, not, ◌&&◌, ◌||◌, IsTrue, ◌==◌, nat_lt, true, ◌<◌, ◌≤◌, IsNone, IfSome};
+ghost use Rattle.std.specs.Prelude.{◌≡◌, ◌↔◌, ℕ, ◌-◌, ◌^◌, min, false, not, ◌&&◌, ◌||◌, IsTrue, ◌==◌, nat_lt, true, ◌<◌, ◌≤◌, IsNone, IfSome, All, length};
 ghost use Rattle.std.specs.Iterator.{YieldsFirst, item_count};
 ghost use Rattle.terms.specs.Masks.{member, Subset, Intersect, Below, subset, intersect, below, size};
 ghost use Rattle.terms.specs.Sets.{capacity, fits, members_of};
@@ -136,7 +136,9 @@ impl SoftSet {
 
     /// The members, lowest first.
     pub fn members(self) -> Members
-        ensures { result ≡ members_of self }
+        ensures value { result ≡ members_of self }
+        ensures fits { All (λ k. k < capacity) result }
+        ensures len { length result ≤ capacity }
     {
         Members { set: self }
     }
