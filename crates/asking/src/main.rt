@@ -120,7 +120,5 @@ fn listed(alloc: Global, set: SoftSet) -> Result<String, AllocError> {
     if set.is_empty() {
         return String::from_str(alloc, "none");
     }
-    (0..64)
-        .filter(|number| set.has(*number))
-        .join(alloc, " and ")
+    set.members().join(alloc, " and ")
 }

@@ -61,7 +61,7 @@ fn price_all<W: WeightKind + fmt::Display>(
     }
     for plan in plans {
         match price_plan(plan, clauses, weights) {
-            Ok(price) => show_price(rt, plan, clauses.len(), price)?,
+            Ok(price) => show_price(rt, plan, price)?,
             Err(error) => println!(rt; "  {error}, so no plan was priced.")?,
         }
     }
@@ -72,11 +72,10 @@ fn price_all<W: WeightKind + fmt::Display>(
 fn show_price<W: WeightKind + fmt::Display>(
     rt: &(impl Print + AllocGlobal),
     plan: &[u8],
-    count: usize,
     price: Price<W>,
 ) -> io::Result<()> {
     let values = plan.iter().join(rt.alloc(), "")?;
-    let clauses = broken_clauses(rt.alloc(), count, price.broken)?;
+    let clauses = broken_clauses(rt.alloc(), price.broken)?;
     print!(rt; "  Plan {values} breaks {clauses}.")?;
     match price.total {
         Some(total) => println!(rt; " Its exact total is {total}."),
@@ -84,11 +83,9 @@ fn show_price<W: WeightKind + fmt::Display>(
     }
 }
 
-/// The soft clauses that are broken, by their numbers, which are below `count`.
-fn broken_clauses(alloc: Global, count: usize, broken: SoftSet) -> Result<String, AllocError> {
-    let numbers = (0..count)
-        .filter(|number| broken.has(*number))
-        .join(alloc, " and ")?;
+/// The soft clauses that are broken, by their numbers.
+fn broken_clauses(alloc: Global, broken: SoftSet) -> Result<String, AllocError> {
+    let numbers = broken.members().join(alloc, " and ")?;
     match broken.len() {
         0 => format!(in alloc; "no soft clause"),
         1 => format!(in alloc; "soft clause {numbers}"),
