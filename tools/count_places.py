@@ -38,7 +38,7 @@ def closing(text, start):
 
 def functions(text):
     """The name, parameters, clauses and body of each function that has a body."""
-    for found in re.finditer(r"\bfn (\w+)(?:<[^(]*>)?\(([^)]*)\)", text):
+    for found in re.finditer(r"\bfn (\w+)(?:<[^(]*>)?\(((?:[^()]|\([^()]*\))*)\)", text):
         at, clauses = found.end(), []
         while at < len(text) and text[at] not in "{;":
             clause = re.compile(r"(requires|ensures)( \w+)? \{").match(text, at)
@@ -84,7 +84,7 @@ def by_hand():
 
 
 def repeated_facts():
-    """A clause, a definition of one argument in a clause, or a pair of parameters, in three functions of a crate or more."""
+    """A clause, the word mask or Valid in a clause, or a pair of parameters, in three functions of a crate or more."""
     places = collections.defaultdict(set)
     for path, text in sources(False):
         crate = path.split("/")[1]
