@@ -73,9 +73,7 @@ fn show_added(
 /// Asks for each of the sets, and says what was answered.
 fn ask_all<F: Finder>(rt: &(impl Print + AllocGlobal), finder: &F) -> io::Result<()> {
     for numbers in &ASKED {
-        let set = numbers
-            .iter()
-            .fold(SoftSet::empty(), |set, number| set.insert(*number));
+        let set = SoftSet::of(numbers);
         let wishes = listed(rt.alloc(), set)?;
         print!(rt; "  Asked for {wishes}: ")?;
         let mut buffer = [0; VARIABLES];

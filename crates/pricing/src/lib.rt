@@ -63,7 +63,7 @@ pub fn price_plan<W: WeightKind>(
 fn check<W>(clauses: &[&[i32]], weights: &[W]) -> Result<(), Unpriced>
     ensures { result_err result ≡ unpriced clauses.now weights.now }
 {
-    if clauses.len() > 64 {
+    if clauses.len() > SoftSet::CAPACITY {
         return Err(Unpriced::TooMany);
     }
     if clauses.len() != weights.len() {

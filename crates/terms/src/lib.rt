@@ -66,6 +66,8 @@ mod tests {
         assert!(rt; set.all_below(64) && !set.all_below(63));
         assert!(rt; SoftSet::empty().all_below(0));
         assert_eq!(rt; set.remove(64).remove(0).len(), 1);
+        assert_eq!(rt; SoftSet::of(&[63, 0, 64, 0]), set);
+        assert_eq!(rt; SoftSet::from_mask(1 << 63 | 1), set);
     }
 
     #[test]

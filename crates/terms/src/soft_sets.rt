@@ -3,6 +3,7 @@
 
 ghost use Rattle.std.specs.Prelude.{◌≡◌, ◌↔◌, ℕ, ◌-◌, ◌^◌, min, false, not, ◌&&◌, ◌||◌, IsTrue, ◌==◌, nat_lt, true, ◌<◌, ◌≤◌, IsNone, IfSome, All, length};
 ghost use Rattle.std.specs.Iterator.{YieldsFirst, item_count};
+ghost use Rattle.std.specs.List.{list_any};
 ghost use Rattle.terms.specs.Masks.{member, Subset, Intersect, Below, subset, intersect, below, size};
 ghost use Rattle.terms.specs.Sets.{capacity, fits, members_of};
 
@@ -25,6 +26,9 @@ impl Model for SoftSet {
 }
 
 impl SoftSet {
+    /// Each member of a set is below this number.
+    pub const CAPACITY: usize = 64;
+
     pub fn empty() -> SoftSet
         ensures value { result ≡ 0 }
         ensures members { (k : ℕ) → member result k ≡ false }
@@ -32,12 +36,30 @@ impl SoftSet {
         SoftSet { bits: 0 }
     }
 
+    /// The set of these numbers, of which those from 64 on are left out.
+    pub fn of(numbers: &[usize]) -> SoftSet
+        ensures { (k : ℕ) → member result k ≡ (list_any (λ number. number == k) numbers.now && fits k) }
+    {
+        let mut set = SoftSet::empty();
+        for number in numbers {
+            set = set.insert(*number);
+        }
+        set
+    }
+
+    /// The set whose members are the places of the ones among the binary digits of `mask`.
+    pub fn from_mask(mask: u64) -> SoftSet
+        ensures { result ≡ mask }
+    {
+        SoftSet { bits: mask }
+    }
+
     /// The numbers below `s`, all 64 where `s` is more.
     pub fn full(s: usize) -> SoftSet
         ensures value { result ≡ 2 ^ min s capacity - 1 }
         ensures members { (k : ℕ) → member result k ≡ (nat_lt k s && fits k) }
     {
-        if s < 64 {
+        if s < SoftSet::CAPACITY {
             SoftSet { bits: (1 << s) - 1 }
         } else {
             SoftSet { bits: u64::MAX }
@@ -47,7 +69,7 @@ impl SoftSet {
     pub fn has(self, number: usize) -> bool
         ensures { result ≡ member self number }
     {
-        number < 64 && (self.bits >> number) % 2 == 1
+        number < SoftSet::CAPACITY && (self.bits >> number) % 2 == 1
     }
 
     /// The set with `number` in it; a number from 64 on changes nothing.
@@ -103,7 +125,7 @@ impl SoftSet {
         ensures value { result ≡ below s self }
         ensures members { IsTrue result ↔ Below s self }
     {
-        s >= 64 || self.bits >> s == 0
+        s >= SoftSet::CAPACITY || self.bits >> s == 0
     }
 
     pub fn intersects(self, other: SoftSet) -> bool
@@ -177,5 +199,9 @@ impl Iterator for Members {
 fn digit(number: usize) -> u64
     ensures { (k : ℕ) → member result k ≡ (number == k && fits k) }
 {
-    if number < 64 { 1 << number } else { 0 }
+    if number < SoftSet::CAPACITY {
+        1 << number
+    } else {
+        0
+    }
 }
