@@ -1,10 +1,15 @@
--- The cost of a set of soft numbers, and the cost of an assignment.
+-- The total of all weights, the cost of a set of soft numbers, and the cost of an assignment.
 use Rattle.std.specs.Prelude.{ℕ, suc, Bool, if◌then◌else◌, List, [], ◌∷◌, ℤ}
 use Rattle.terms.specs.Clauses.{satisfied_by}
 use Rattle.terms.specs.Masks.{member}
 use Rattle.weights.specs.Kinds.{Kind}
 
 module _ {W : Type 0} (K : Kind W) where
+  -- the sum of all weights
+  abbrev pub total : List W → K.V
+  total [] = K.zero
+  total (w ∷ ws) = K.plus (K.value w) (total ws)
+
   -- the sum of the weights at the numbers that p picks, the first weight having the number i
   abbrev pub cost_from : List W → (ℕ → Bool) → ℕ → K.V
   cost_from [] p i = K.zero
