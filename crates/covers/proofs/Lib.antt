@@ -1,0 +1,3 @@
+pub mod CoreLaws
+pub mod MakerLaws
+pub mod CoverLaws

@@ -1,0 +1,3 @@
+pub mod Meanings
+pub mod Covers
+pub mod Refused
