@@ -1,2 +1,3 @@
 pub mod Opposites
 pub mod Computed
+pub mod Triangle

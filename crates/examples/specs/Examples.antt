@@ -3,10 +3,12 @@ use Rattle.std.specs.Prelude.{◌≡◌, ℕ, zero, suc, ◌+◌, ◌^◌, true,
 use Rattle.terms.specs.Clauses.{satisfied_by}
 use Rattle.finders.specs.Meanings.{FinderMeaning, fresh, with_hard, with_soft}
 use Rattle.finders.specs.Questions.{Core}
-use Rattle.weights.specs.Costs.{charge}
+use Rattle.weights.specs.Costs.{cost, charge}
 use Rattle.weights.specs.Levelled.{Three, three, levels_kind}
 use Rattle.weights.specs.Plainly.{plain_kind}
 use Rattle.weights.specs.declared.plain.Plain.{Plain}
+use Rattle.covers.specs.Covers.{Least}
+use Rattle.covers.specs.Meanings.{MakerMeaning, fresh as fresh_maker, with_weight, with_core, cores_with}
 
 -- the literals of variable v
 abbrev on : ℕ → ℤ
@@ -24,8 +26,11 @@ abbrev pub BreaksAnother : Type 0
 BreaksAnother = satisfied_by (0 ∷ 0 ∷ []) (on 1 ∷ on 2 ∷ []) ≡ false
 
 -- ---- costs, with the soft clauses (-1) at 3, (-2) at 5 and (1) at 4
+abbrev plain : ℕ → Plain
+plain n = record { amount = n }
+
 abbrev at : ℕ → ℤ → Plain × List ℤ
-at n l = (record { amount = n }, l ∷ [])
+at n l = (plain n, l ∷ [])
 
 abbrev pub Costs : ℕ → ℕ → ℕ → Type 0
 Costs one two n = charge plain_kind (at 3 (off 1) ∷ at 5 (off 2) ∷ at 4 (on 1) ∷ []) (one ∷ two ∷ []) ≡ n
@@ -49,6 +54,20 @@ Clash ks = Core opposites (set ks)
 
 abbrev pub NoClash : List ℕ → Type 0
 NoClash ks = Clash ks → ⊥
+
+-- ---- covers
+-- the weights 2, 3 and 4, and then the cores {0, 1}, {1, 2} and {0, 2}
+abbrev pub triangle : MakerMeaning Plain
+triangle =
+    with_core (with_core (with_core (with_weight (with_weight (with_weight (fresh_maker 16) (plain 2)) (plain 3)) (plain 4)) (set (0 ∷ 1 ∷ [])))
+    (set (1 ∷ 2 ∷ []))) (set (0 ∷ 2 ∷ []))
+
+abbrev pub LeastCover : List ℕ → ℕ → Type 0
+LeastCover ks n = Least plain_kind triangle (set ks) × (cost plain_kind triangle.weights (set ks) ≡ n)
+
+-- of the cores {0, 1}, {1, 2} and {2, 3}, with the core {1} added
+abbrev pub Keeps : List ℕ → Type 0
+Keeps cores = cores_with (set (0 ∷ 1 ∷ []) ∷ set (1 ∷ 2 ∷ []) ∷ set (2 ∷ 3 ∷ []) ∷ []) (set (1 ∷ [])) ≡ cores
 
 -- ---- weights
 abbrev pub Below : Three → Three → Type 0
@@ -75,6 +94,8 @@ examples =
     ∷ Clash (0 ∷ 1 ∷ [])
     ∷ NoClash (0 ∷ [])
     ∷ NoClash (1 ∷ [])
+    ∷ LeastCover (0 ∷ 1 ∷ []) 5
+    ∷ Keeps (set (2 ∷ 3 ∷ []) ∷ set (1 ∷ []) ∷ [])
     ∷ Below (three 0 9 9) (three 1 0 0)
     ∷ Sums (three 0 5 1) (three 1 0 2) (three 1 5 3)
     ∷ HeldInPlain
