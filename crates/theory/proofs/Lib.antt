@@ -1,0 +1,6 @@
+pub mod FreeSets
+pub mod Found
+pub mod Statuses
+pub mod Charges
+pub mod Sound
+pub mod Bracket
