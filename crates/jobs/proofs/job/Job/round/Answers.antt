@@ -1,0 +1,5 @@
+use Rattle.theory.proofs.Bracket.{step_keeps}
+use Rattle.jobs.proofs.job.Job.round.Goals as goal
+
+pub returns-clause-bracket : goal.returns-clause-bracket
+returns-clause-bracket g c = step_keeps g.met.C.Weight.WeightKind.laws _ _ _ _ c.take_round.ensures

@@ -1,0 +1,4 @@
+pub mod Earlier
+pub mod Plans
+pub mod Jobs
+pub mod Answers
