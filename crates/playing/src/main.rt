@@ -1,0 +1,312 @@
+//! Plays jobs to their end, in both weight kinds, and shows each call with its answer and the bracket after it.
+#![tactic(auto)]
+
+use counting::CountThroughMaker;
+use covers::CoverMaker;
+use finders::Finder;
+use itertools::Itertools;
+use jobs::Job;
+use shrinking::Shrinking;
+use std::{fmt, io};
+use tables::{ClauseRecord, CountThrough};
+use terms::Refusal;
+use weights::{Levels, Plain, WeightKind};
+
+// 1 is the electric pump, 2 the diesel pump.
+const VARIABLES: usize = 2;
+
+// No electric pump is wanted, nor a diesel one; and then an electric pump is wanted after all.
+const WISHES: [&[i32]; 3] = [&[-1], &[-2], &[1]];
+
+// A job without end would show here: the promise for four wishes is 33 rounds.
+const MOST_ROUNDS: usize = 33;
+
+fn main(rt: HostRuntime) -> io::Result<()> {
+    println!(rt; "Plain weights.")?;
+    play_worked_example(&rt, &[3, 5, 4].map(Plain::new))?;
+    println!(rt; "Plain weights. The dear plan costs 4294967296, which 32 bits would count as 0.")?;
+    play_worked_example(&rt, &[3, 4_294_967_292, 4].map(Plain::new))?;
+    println!(rt; "Level weights.")?;
+    let weights = [
+        Levels::new(0, 3, 0),
+        Levels::new(0, 5, 1),
+        Levels::new(1, 0, 2),
+    ];
+    play_worked_example(&rt, &weights)?;
+    println!(rt; "Level weights. The first plan is not the best, and a late wish makes it so.")?;
+    let weights = [
+        Levels::new(1, 0, 0),
+        Levels::new(0, 9, 9),
+        Levels::new(0, 0, 1),
+    ];
+    play_late_wish(&rt, &weights, Levels::new(1, 0, 0))?;
+    println!(rt; "A cover maker in use.")?;
+    let mut maker = CountThroughMaker::new(rt.alloc())?;
+    let _ = maker.add_weight(Plain::new(7));
+    let finder = CountThrough::new(&mut [], &mut [], VARIABLES);
+    let mut job = Job::open(finder, maker);
+    add_hard(&rt, &mut job, &[1, 2])?;
+    add_soft(&rt, &mut job, Plain::new(3), &[-1])?;
+    play_rounds(&rt, &mut job)
+}
+
+/// A best plan, a hard clause that it breaks, a best plan again, and a hard clause that leaves none.
+fn play_worked_example<W: WeightKind + fmt::Display>(
+    rt: &(impl Print + AllocGlobal),
+    weights: &[W],
+) -> io::Result<()> {
+    let mut records = [ClauseRecord::blank(); 6];
+    let mut literals = [0; 8];
+    let finder = CountThrough::new(&mut records, &mut literals, VARIABLES);
+    let maker = CountThroughMaker::new(rt.alloc())?;
+    let mut job = Job::open(Shrinking::new(finder), maker);
+    enter(rt, &mut job, weights)?;
+    add_soft(rt, &mut job, W::zero(), &[2])?;
+    add_hard(rt, &mut job, &[1, 3])?;
+    play_rounds(rt, &mut job)?;
+    add_hard(rt, &mut job, &[-1])?;
+    play_rounds(rt, &mut job)?;
+    add_hard(rt, &mut job, &[-2])?;
+    play_rounds(rt, &mut job)
+}
+
+/// A best plan, the electric pump wanted once more, and a best plan again.
+fn play_late_wish<W: WeightKind + fmt::Display>(
+    rt: &(impl Print + AllocGlobal),
+    weights: &[W],
+    late: W,
+) -> io::Result<()> {
+    let mut records = [ClauseRecord::blank(); 5];
+    let mut literals = [0; 6];
+    let finder = CountThrough::new(&mut records, &mut literals, VARIABLES);
+    let maker = CountThroughMaker::new(rt.alloc())?;
+    let mut job = Job::open(Shrinking::new(finder), maker);
+    enter(rt, &mut job, weights)?;
+    play_rounds(rt, &mut job)?;
+    add_soft(rt, &mut job, late, &[1])?;
+    add_soft(rt, &mut job, late, &[1])?;
+    play_rounds(rt, &mut job)
+}
+
+/// One pump is needed at least, and there are the wishes.
+fn enter<F: Finder, C: CoverMaker>(
+    rt: &(impl Print + AllocGlobal),
+    job: &mut Job<F, C>,
+    weights: &[C::Weight],
+) -> io::Result<()>
+where
+    C::Weight: fmt::Display,
+{
+    add_hard(rt, job, &[1, 2])?;
+    for (wish, weight) in WISHES.iter().zip(weights) {
+        add_soft(rt, job, *weight, wish)?;
+    }
+    Ok(())
+}
+
+fn add_hard<F: Finder, C: CoverMaker>(
+    rt: &(impl Print + AllocGlobal),
+    job: &mut Job<F, C>,
+    clause: &[i32],
+) -> io::Result<()>
+where
+    C::Weight: fmt::Display,
+{
+    let literals = clause.iter().join(rt.alloc(), " ")?;
+    print!(rt; "  Hard clause {literals} ")?;
+    match job.hard(clause) {
+        Ok(()) => print!(rt; "is added")?,
+        Err(refusal) => show_refusal(rt, refusal)?,
+    }
+    show_state(rt, job)
+}
+
+fn add_soft<F: Finder, C: CoverMaker>(
+    rt: &(impl Print + AllocGlobal),
+    job: &mut Job<F, C>,
+    weight: C::Weight,
+    clause: &[i32],
+) -> io::Result<()>
+where
+    C::Weight: fmt::Display,
+{
+    let literals = clause.iter().join(rt.alloc(), " ")?;
+    print!(rt; "  Soft clause {literals} of weight {weight} ")?;
+    match job.soft(weight, clause) {
+        Ok(number) => print!(rt; "gets the number {number}")?,
+        Err(refusal) => show_refusal(rt, refusal)?,
+    }
+    show_state(rt, job)
+}
+
+/// Calls rounds until one is refused.
+fn play_rounds<F: Finder, C: CoverMaker>(
+    rt: &(impl Print + AllocGlobal),
+    job: &mut Job<F, C>,
+) -> io::Result<()>
+where
+    C::Weight: fmt::Display,
+{
+    for number in 1..=MOST_ROUNDS {
+        print!(rt; "  Round {number} ")?;
+        match job.round() {
+            Ok(()) => print!(rt; "is played")?,
+            Err(refusal) => {
+                show_refusal(rt, refusal)?;
+                return show_state(rt, job);
+            }
+        }
+        show_state(rt, job)?;
+    }
+    Ok(())
+}
+
+fn show_refusal(rt: &impl Print, refusal: Refusal) -> io::Result<()> {
+    print!(rt; "is refused with {}", refusal.number())
+}
+
+/// The status, and the bracket with the kept plan.
+fn show_state<F: Finder, C: CoverMaker>(
+    rt: &(impl Print + AllocGlobal),
+    job: &Job<F, C>,
+) -> io::Result<()>
+where
+    C::Weight: fmt::Display,
+{
+    let bracket = job.bracket();
+    print!(rt; ": {}, floor {}", job.status(), bracket.floor)?;
+    let mut plan = [0; VARIABLES];
+    match (bracket.ceiling, job.copy_kept(&mut plan)) {
+        (Some(ceiling), Ok(())) => {
+            let values = plan.iter().join(rt.alloc(), "")?;
+            println!(rt; ", ceiling {ceiling}, plan {values}.")
+        }
+        _ => println!(rt; "."),
+    }
+}
+
+#[cfg(test)]
+mod tests {
+    // Refusals in their order, the buffer of a copy, and the edges of what a job takes.
+    use super::*;
+    use jobs::Status;
+    use std::test::Fail;
+    use terms::Part;
+
+    #[test]
+    fn the_earliest_refusal_of_both_parts_counts(rt: HostRuntime) -> Result<(), Fail> {
+        let mut records = [ClauseRecord::blank(); 1];
+        let mut literals = [0; 1];
+        let finder = CountThrough::new(&mut records, &mut literals, VARIABLES);
+        let mut job = Job::open(finder, CountThroughMaker::new(rt.alloc())?);
+        let most = Plain::new(u64::MAX);
+        assert_eq!(rt; job.soft(Plain::new(0), &[3]), Err(Refusal::BadLiteral));
+        assert_eq!(rt; job.soft(Plain::new(0), &[1, 2]), Err(Refusal::ZeroWeight));
+        assert_eq!(rt; job.soft(most, &[1, 2]), Err(Refusal::NoClausePlace));
+        assert_eq!(rt; job.soft(most, &[1]), Ok(0));
+        assert_eq!(rt; job.soft(most, &[1]), Err(Refusal::TotalNotHeld));
+        assert_eq!(rt; job.hard(&[1]), Err(Refusal::NoClausePlace));
+        assert_eq!(rt; job.hard(&[0]), Err(Refusal::BadLiteral));
+        Ok(())
+    }
+
+    #[test]
+    fn seventeen_soft_clauses_are_one_too_many_for_the_maker(rt: HostRuntime) -> Result<(), Fail> {
+        let mut records = [ClauseRecord::blank(); 20];
+        let finder = CountThrough::new(&mut records, &mut [], 0);
+        let maker = CountThroughMaker::new(rt.alloc())?;
+        let mut job = Job::open(Shrinking::new(finder), maker);
+        for number in 0..16 {
+            assert_eq!(rt; job.soft(Plain::new(1), &[]), Ok(number));
+        }
+        let full = Err(Refusal::NoSoftPlace(Part::CoverMaker));
+        assert_eq!(rt; job.soft(Plain::new(1), &[]), full);
+        assert_eq!(rt; job.soft(Plain::new(0), &[]), Err(Refusal::ZeroWeight));
+        let refusal = play(&mut job);
+        assert_eq!(rt; refusal, Some(Refusal::Finished));
+        assert_eq!(rt; job.status(), Status::Best);
+        assert_eq!(rt; job.bracket().ceiling, Some(Plain::new(16)));
+        Ok(())
+    }
+
+    /// Calls rounds until one is refused, and tells why.
+    fn play<F: Finder, C: CoverMaker>(job: &mut Job<F, C>) -> Option<Refusal> {
+        for _ in 0..5000 {
+            if let Err(refusal) = job.round() {
+                return Some(refusal);
+            }
+        }
+        None
+    }
+
+    #[test]
+    fn without_variables_there_is_one_assignment(rt: HostRuntime) -> Result<(), Fail> {
+        let mut records = [ClauseRecord::blank(); 2];
+        let finder = CountThrough::new(&mut records, &mut [], 0);
+        let mut job = Job::open(finder, CountThroughMaker::new(rt.alloc())?);
+        assert_eq!(rt; job.variable_count(), 0);
+        assert_eq!(rt; job.soft(Plain::new(3), &[]), Ok(0));
+        assert_eq!(rt; play(&mut job), Some(Refusal::Finished));
+        assert_eq!(rt; job.status(), Status::Best);
+        assert_eq!(rt; job.copy_kept(&mut []), Ok(()));
+        assert_eq!(rt; job.hard(&[]), Ok(()));
+        assert_eq!(rt; job.copy_kept(&mut []), Err(Refusal::NothingKept));
+        assert_eq!(rt; play(&mut job), Some(Refusal::Finished));
+        assert_eq!(rt; job.status(), Status::Void);
+        Ok(())
+    }
+
+    #[test]
+    fn a_copy_leaves_the_rest_of_the_buffer(rt: HostRuntime) -> Result<(), Fail> {
+        let mut records = [ClauseRecord::blank(); 2];
+        let mut literals = [0; 2];
+        let finder = CountThrough::new(&mut records, &mut literals, VARIABLES);
+        let mut job = Job::open(finder, CountThroughMaker::new(rt.alloc())?);
+        assert_eq!(rt; job.hard(&[-1]), Ok(()));
+        assert_eq!(rt; job.soft(Plain::new(1), &[2]), Ok(0));
+        let mut buffer = [7; 4];
+        assert_eq!(rt; job.copy_kept(&mut buffer[..1]), Err(Refusal::TooShort));
+        assert_eq!(rt; job.copy_kept(&mut buffer), Err(Refusal::NothingKept));
+        assert_eq!(rt; play(&mut job), Some(Refusal::Finished));
+        assert_eq!(rt; job.copy_kept(&mut buffer[..1]), Err(Refusal::TooShort));
+        assert_eq!(rt; buffer, [7, 7, 7, 7]);
+        assert_eq!(rt; job.copy_kept(&mut buffer), Ok(()));
+        assert_eq!(rt; buffer, [0, 1, 7, 7]);
+        Ok(())
+    }
+
+    const NOT: [i32; 12] = [-1, -2, -3, -4, -5, -6, -7, -8, -9, -10, -11, -12];
+
+    // Of twelve options no five can be had together: there are 792 such sets, and each is a core.
+    #[test]
+    fn a_full_core_store_refuses_the_round_and_nothing_else(rt: HostRuntime) -> Result<(), Fail> {
+        let mut records = [ClauseRecord::blank(); 804];
+        let mut literals = [0; 3972];
+        let finder = CountThrough::new(&mut records, &mut literals, 12);
+        let maker = CountThroughMaker::new(rt.alloc())?;
+        let mut job = Job::open(Shrinking::new(finder), maker);
+        for option in 1..=12 {
+            assert!(rt; job.soft(Plain::new(1), &[option]).is_ok());
+        }
+        for a in NOT {
+            for b in NOT {
+                for c in NOT {
+                    for d in NOT {
+                        for e in NOT {
+                            if a > b && b > c && c > d && d > e {
+                                assert_eq!(rt; job.hard(&[a, b, c, d, e]), Ok(()));
+                            }
+                        }
+                    }
+                }
+            }
+        }
+        assert_eq!(rt; play(&mut job), Some(Refusal::NoCorePlace));
+        assert_eq!(rt; job.status(), Status::Open);
+        let bracket = job.bracket();
+        assert_eq!(rt; bracket.ceiling, Some(Plain::new(8)));
+        assert_eq!(rt; job.round(), Err(Refusal::NoCorePlace));
+        assert_eq!(rt; job.bracket(), bracket);
+        Ok(())
+    }
+}
