@@ -1,7 +1,7 @@
 -- Whether an assignment meets the hard clauses and those of a set, clause by clause through the tables.
 use Rattle.std.proofs.Common.{◌≡◌, ℕ, zero, suc, ◌+◌, ◌<◌, Bool, true, false, not, ◌&&◌, ◌||◌, List, [], ◌∷◌, ◌++◌, length, ℤ, Decides, sym, refl, ap, ◌∙◌, arith}
 use Rattle.std.specs.Bool.{MatchBool}
-use Rattle.std.specs.List.{list_all, AllWithin, HoldsAt}
+use Rattle.std.specs.List.{AllWithin, HoldsAt}
 use Rattle.std.proofs.lemmas.List.Elements.{All-from_all_within}
 use Rattle.std.proofs.lemmas.List.Sums.{list_all-from_AllPass}
 use Rattle.std.proofs.lemmas.List.Folds.{list_all_at}
@@ -10,14 +10,10 @@ use Rattle.std.proofs.lemmas.Bool.Decides.{Decides-and, Decides-like}
 use Rattle.terms.specs.Clauses.{satisfied_by, breaks}
 use Rattle.terms.specs.Masks.{member}
 use Rattle.tables.specs.Entries.{Entry, hards, softs, hard_part, soft_part, satisfied_all, numbered, well_numbered, softs_after}
-use Rattle.tables.specs.Trying.{met}
+use Rattle.tables.specs.Trying.{met, all_met}
 use Rattle.tables.specs.declared.records.ClauseKind.{ClauseKind}
 use Rattle.tables.specs.declared.records.ClauseKind.TheVariants.{Hard, Soft}
 use Rattle.tables.proofs.Breaking.{breaks-nil, breaks-zero, breaks-suc}
-
--- each clause is met
-abbrev pub all_met : ℕ → List ℕ → List Entry → Bool
-all_met set a = list_all (λ e. met set a e.kind e.clause)
 
 -- what a run over the clauses answered, as one test of them all
 pub all_met_from_cases : (set : ℕ) (a : List ℕ) (es : List Entry) (r : Bool)

@@ -1,7 +1,7 @@
 -- The clauses of a table in their order, each with its kind.
-use Rattle.std.specs.Prelude.{ℕ, suc, ◌+◌, ◌≤◌, Bool, true, false, ◌&&◌, List, [], ◌∷◌, take, drop, ℤ, ◌==◌}
-use Rattle.std.specs.List.{flat_map, list_all}
-use Rattle.terms.specs.Clauses.{satisfied_by}
+use Rattle.std.specs.Prelude.{◌≡◌, ℕ, suc, ◌+◌, ◌≤◌, Bool, true, false, ◌&&◌, List, [], ◌∷◌, length, take, drop, All, ℤ, ◌==◌}
+use Rattle.std.specs.List.{flat_map, list_all, sum_by}
+use Rattle.terms.specs.Clauses.{satisfied_by, bad_literal}
 use Rattle.tables.specs.declared.records.Clause.{Clause}
 use Rattle.tables.specs.declared.records.ClauseKind.{ClauseKind}
 use Rattle.tables.specs.declared.records.ClauseKind.TheVariants.{Hard, Soft}
@@ -25,6 +25,14 @@ entry literals r = record { kind = r.kind; clause = take r.size (drop r.place li
 -- the literals of the record's clause are among the first ones, so many
 abbrev pub LiesWithin : ℕ → ClauseRecord → Type 0
 LiesWithin count r = r.place + r.size ≤ count
+
+-- each literal of the clause is one of the n variables'
+abbrev pub IsProper : ℕ → Entry → Type 0
+IsProper n e = All (λ l. bad_literal n l ≡ false) e.clause
+
+-- how many literals the clauses have together
+abbrev pub literal_count : List Entry → ℕ
+literal_count = sum_by (λ e. length e.clause)
 
 -- ---- hard and soft clauses, each in order
 abbrev pub hard_part : ClauseKind → List ℤ → List (List ℤ)

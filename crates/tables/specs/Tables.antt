@@ -2,7 +2,7 @@
 use Rattle.std.specs.Prelude.{◌≡◌, ◌+◌, ◌-◌, ◌≤◌, false, IsTrue, map, length, All}
 use Rattle.terms.specs.Clauses.{bad_literal}
 use Rattle.finders.specs.Meanings.{Limited}
-use Rattle.tables.specs.Entries.{entry, softs, numbered, LiesWithin}
+use Rattle.tables.specs.Entries.{entry, softs, numbered, literal_count, LiesWithin}
 use Rattle.tables.specs.Table.{Table, meaning_of}
 use Rattle.tables.specs.declared.tables.Tables.TheInside.{Inside}
 
@@ -19,6 +19,10 @@ pub record IsValid (t : Inside) : Type 0 where
   pub limited : Limited (meaning_of (table_of t))
   -- where a clause begins fits a record
   pub roomy : length t.literals.items + t.literals.free ≤ 32768
+  -- the number of a clause fits as well
+  pub few : length t.records.items + t.records.free ≤ 32768
+  -- the clauses have no more literals than are in use
+  pub short : literal_count (table_of t).entries ≤ length t.literals.items
   -- each clause lies within the literals in use
   pub inside : All (LiesWithin (length t.literals.items)) t.records.items
   -- each literal in use is one of the n variables'

@@ -1,9 +1,11 @@
--- What it is to try assignments one after another.
+-- Which clauses a model has to satisfy, and what it is to try assignments one after another.
 use Rattle.std.specs.Prelude.{◌≡◌, ℕ, zero, suc, ◌/◌, ◌%◌, Bool, true, false, not, ◌||◌, List, [], ◌∷◌, ℤ, Some, None, Option}
+use Rattle.std.specs.List.{list_all}
 use Rattle.terms.specs.Clauses.{satisfied_by, breaks}
 use Rattle.terms.specs.Masks.{member}
 use Rattle.finders.specs.Meanings.{FinderMeaning}
 use Rattle.finders.specs.Questions.{Model}
+use Rattle.tables.specs.Entries.{Entry}
 use Rattle.tables.specs.declared.records.ClauseKind.{ClauseKind}
 use Rattle.tables.specs.declared.records.ClauseKind.TheVariants.{Hard, Soft}
 
@@ -20,6 +22,10 @@ wanted set (Soft k) = member set k
 -- a clause that is wanted is satisfied
 abbrev pub met : ℕ → List ℕ → ClauseKind → List ℤ → Bool
 met set a k c = not (wanted set k) || satisfied_by a c
+
+-- each clause is met
+abbrev pub all_met : ℕ → List ℕ → List Entry → Bool
+all_met set a = list_all (λ e. met set a e.kind e.clause)
 
 -- what an assignment has to meet to be a model
 abbrev pub Meets : FinderMeaning → ℕ → List ℕ → Type 0

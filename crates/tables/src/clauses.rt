@@ -44,11 +44,6 @@ impl<'a> Iterator for Clauses<'a> {
     fn next(&mut self) -> Option<Clause<'a>> {
         let (record, others) = self.records.split_first()?;
         self.records = others;
-        let start = usize::from(record.place);
-        let end = start + usize::from(record.size);
-        Some(Clause {
-            kind: record.kind,
-            literals: &self.literals[start..end],
-        })
+        Some(record.clause(self.literals))
     }
 }

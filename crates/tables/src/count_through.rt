@@ -8,7 +8,7 @@ ghost use Rattle.tables.specs.Room.{room};
 ghost use Rattle.tables.specs.Table.{meaning_of, made_in};
 ghost use Rattle.tables.specs.Trying.{Meets, Found, digits};
 
-use crate::records::{ClauseKind, ClauseRecord};
+use crate::records::ClauseRecord;
 use crate::room::Room;
 use crate::tables::Tables;
 use finders::{Answer, Finder};
@@ -38,7 +38,7 @@ impl<'a> CountThrough<'a> {
         ensures { finder_meaning result ≡ made_in (room 16 n) (length records.old) (length literals.old) }
     {
         CountThrough {
-            tables: Tables::new(records, literals, Room::new(n, 16)),
+            tables: Tables::new(records, literals, n, 16),
         }
     }
 
@@ -91,22 +91,19 @@ impl Finder for CountThrough<'_> {
     }
 
     fn hard_refusal(&self, clause: &[i32]) -> Option<Refusal> {
-        self.tables.check_clause(ClauseKind::Hard, clause).err()
+        self.tables.hard_refusal(clause)
     }
 
     fn soft_refusal(&self, clause: &[i32]) -> Option<Refusal> {
-        self.tables
-            .check_clause(self.tables.next_soft(), clause)
-            .err()
+        self.tables.soft_refusal(clause)
     }
 
     fn add_hard(&mut self, clause: &[i32]) -> Result<(), Refusal> {
-        self.tables.add(ClauseKind::Hard, clause)
+        self.tables.add_hard(clause)
     }
 
     fn add_soft(&mut self, clause: &[i32]) -> Result<(), Refusal> {
-        let kind = self.tables.next_soft();
-        self.tables.add(kind, clause)
+        self.tables.add_soft(clause)
     }
 
     fn ask(&self, set: SoftSet, buffer: &mut [u8]) -> Result<Answer, Refusal> {

@@ -1,4 +1,5 @@
-//! Clause tables in memory that the caller lends, and the finders that keep their clauses in them.
+//! Clause tables in memory that the caller lends, for finders to keep their clauses in, and the finder that tries every
+//! assignment.
 #![tactic(auto)]
 
 mod clauses;
@@ -8,8 +9,11 @@ mod records;
 mod room;
 mod tables;
 
+pub use clauses::Clauses;
 pub use count_through::CountThrough;
-pub use records::ClauseRecord;
+pub use records::{Clause, ClauseKind, ClauseRecord};
+pub use room::Room;
+pub use tables::Tables;
 
 #[cfg(test)]
 mod tests {

@@ -1,6 +1,6 @@
 //! How a clause stands in the tables, and how they show it.
-ghost use Rattle.std.specs.Prelude.{◌≡◌, ◌≤◌};
-ghost use Rattle.tables.specs.Entries.{blank, is_soft, softs_after};
+ghost use Rattle.std.specs.Prelude.{◌≡◌, ◌≤◌, length};
+ghost use Rattle.tables.specs.Entries.{LiesWithin, as_entry, blank, entry, is_soft, softs_after};
 ghost use Rattle.tables.specs.Trying.{wanted, met};
 
 use terms::{SoftSet, satisfies};
@@ -32,7 +32,7 @@ impl ClauseKind {
     }
 
     /// Whether a model for the set has to satisfy a clause of this kind.
-    fn is_wanted(self, set: SoftSet) -> bool
+    pub fn is_wanted(self, set: SoftSet) -> bool
         ensures { result ≡ wanted set self }
     {
         match self {
@@ -59,6 +59,19 @@ impl ClauseRecord {
             place: 0,
             size: 0,
             kind: ClauseKind::Hard,
+        }
+    }
+
+    /// The record's clause, in the table of literals.
+    pub(crate) fn clause(self, literals: &[i32]) -> Clause<'_>
+        requires { LiesWithin (length literals.now) self }
+        ensures { as_entry result ≡ entry literals.now self }
+    {
+        let start = usize::from(self.place);
+        let end = start + usize::from(self.size);
+        Clause {
+            kind: self.kind,
+            literals: &literals[start..end],
         }
     }
 }

@@ -16,7 +16,7 @@ pub struct Room {
 
 impl Room {
     /// Refuses more variables than `most`.
-    pub(crate) fn check(n: usize, most: usize) -> Result<(), Refusal>
+    pub fn check(n: usize, most: usize) -> Result<(), Refusal>
         ensures { result_err result ≡ variables_refused most n }
     {
         if n > most {

@@ -1,20 +1,20 @@
 //! The clauses of a finder in two lent tables: making these, adding to them and reading them.
-ghost use Rattle.std.specs.Prelude.{◌≡◌, ◌↔◌, IsTrue, ℕ, ◌≤◌, length, None};
+ghost use Rattle.std.specs.Prelude.{◌≡◌, ◌≤◌, ◌↔◌, IsTrue, ℕ, min, All, length, None, slice_get, option_map};
 ghost use Rattle.std.specs.Result.{result_err};
 ghost use Rattle.terms.specs.Clauses.{breaks};
 ghost use Rattle.terms.specs.Masks.{member};
 ghost use Rattle.terms.specs.Refusals.{unless_refused};
-ghost use Rattle.finders.specs.Meanings.{Limited};
+ghost use Rattle.finders.specs.Meanings.{Limited, with_hard, with_soft};
 ghost use Rattle.finders.specs.Questions.{ToldBroken};
-ghost use Rattle.finders.specs.Refused.{ask_refused, broken_refused};
-ghost use Rattle.tables.specs.Entries.{softs, numbered, well_numbered};
+ghost use Rattle.finders.specs.Refused.{hard_refused, soft_refused, ask_refused, broken_refused};
+ghost use Rattle.tables.specs.Entries.{IsProper, as_entry, literal_count, softs, numbered, well_numbered};
 ghost use Rattle.tables.specs.Table.{meaning_of, made_in, refused_as, with_clause, with_entry};
-ghost use Rattle.tables.specs.Room.{IsWithinLimits};
+ghost use Rattle.tables.specs.Room.{room};
 ghost use Rattle.tables.specs.Trying.{Meets};
 
 use crate::clauses::Clauses;
 use crate::lent::Lent;
-use crate::records::{ClauseKind, ClauseRecord};
+use crate::records::{Clause, ClauseKind, ClauseRecord};
 use crate::room::Room;
 use std::marker::Model;
 use terms::{Part, Refusal, SoftSet, first_bad_literal, is_binary, satisfies};
@@ -44,12 +44,18 @@ impl<'a> Model for Tables<'a> {
 }
 
 impl<'a> Tables<'a> {
-    /// Tables without a clause, used as far as there is room.
-    pub(crate) fn new(records: &'a mut [ClauseRecord], literals: &'a mut [i32], room: Room) -> Self
-        requires { IsWithinLimits room }
-        ensures meaning { meaning_of result ≡ made_in room (length records.old) (length literals.old) }
+    /// Tables without a clause, for a finder that takes up to `most` variables, and never more than 256.
+    /// With more than that they are for no variables and have no places.
+    pub fn new(
+        records: &'a mut [ClauseRecord],
+        literals: &'a mut [i32],
+        n: usize,
+        most: usize,
+    ) -> Self
+        ensures meaning { meaning_of result ≡ made_in (room (min most 256) n) (length records.old) (length literals.old) }
         ensures limited { Limited (meaning_of result) }
     {
+        let room = Room::new(n, most.min(256));
         let clause_places = records.len().min(room.places);
         let literal_places = literals.len().min(room.places);
         Tables {
@@ -62,14 +68,47 @@ impl<'a> Tables<'a> {
     }
 
     /// The kind of the next soft clause.
-    pub(crate) fn next_soft(&self) -> ClauseKind
+    fn next_soft(&self) -> ClauseKind
         ensures { result ≡ ClauseKind.Soft (length (softs self.now.entries)) }
     {
         ClauseKind::Soft(self.softs as u8)
     }
 
+    /// Why adding the hard clause would be refused, if it would.
+    pub fn hard_refusal(&self, clause: &[i32]) -> Option<Refusal>
+        ensures { result ≡ hard_refused (meaning_of self.now) clause.now }
+    {
+        self.check_clause(ClauseKind::Hard, clause).err()
+    }
+
+    /// Why adding the soft clause would be refused, if it would.
+    pub fn soft_refusal(&self, clause: &[i32]) -> Option<Refusal>
+        ensures { result ≡ soft_refused (meaning_of self.now) clause.now }
+    {
+        self.check_clause(self.next_soft(), clause).err()
+    }
+
+    /// Adds the hard clause behind the others.
+    pub fn add_hard(&mut self, clause: &[i32]) -> Result<(), Refusal>
+        ensures refusal { result_err result ≡ hard_refused (meaning_of self.old) clause.now }
+        ensures meaning { meaning_of self.new ≡ unless_refused (result_err result) (with_hard (meaning_of self.old) clause.now) (meaning_of self.old) }
+        ensures limited { Limited (meaning_of self.new) }
+    {
+        self.add(ClauseKind::Hard, clause)
+    }
+
+    /// Adds the soft clause behind the others.
+    pub fn add_soft(&mut self, clause: &[i32]) -> Result<(), Refusal>
+        ensures refusal { result_err result ≡ soft_refused (meaning_of self.old) clause.now }
+        ensures meaning { meaning_of self.new ≡ unless_refused (result_err result) (with_soft (meaning_of self.old) clause.now) (meaning_of self.old) }
+        ensures limited { Limited (meaning_of self.new) }
+    {
+        let kind = self.next_soft();
+        self.add(kind, clause)
+    }
+
     /// Refuses the clause where it cannot be added.
-    pub(crate) fn check_clause(&self, kind: ClauseKind, clause: &[i32]) -> Result<(), Refusal>
+    fn check_clause(&self, kind: ClauseKind, clause: &[i32]) -> Result<(), Refusal>
         ensures { result_err result ≡ refused_as kind (meaning_of self.now) clause.now }
     {
         if clause.len() > 64 {
@@ -87,7 +126,7 @@ impl<'a> Tables<'a> {
 
     /// Adds the clause behind the others.
     #[tactic(auto, using(crate::proofs::Pushed::means_with_clause, crate::proofs::Pushed::limited_push))]
-    pub(crate) fn add(&mut self, kind: ClauseKind, clause: &[i32]) -> Result<(), Refusal>
+    fn add(&mut self, kind: ClauseKind, clause: &[i32]) -> Result<(), Refusal>
         requires { IsTrue (well_numbered (length (softs self.old.entries)) kind) }
         ensures refusal { result_err result ≡ refused_as kind (meaning_of self.old) clause.now }
         ensures meaning { meaning_of self.new ≡ unless_refused (result_err result) (with_clause kind (meaning_of self.old) clause.now) (meaning_of self.old) }
@@ -116,30 +155,51 @@ impl<'a> Tables<'a> {
     }
 
     /// The number of variables.
-    pub(crate) fn variables(&self) -> usize
+    pub fn variables(&self) -> usize
         ensures { result ≡ self.now.n }
     {
         self.n
     }
 
     /// The number of soft clauses.
-    pub(crate) fn soft_count(&self) -> usize
+    pub fn soft_count(&self) -> usize
         ensures { result ≡ length (softs self.now.entries) }
     {
         self.softs
     }
 
+    /// The number of clauses.
+    pub fn clause_count(&self) -> usize
+        ensures { result ≡ length self.now.entries }
+    {
+        self.records.items().len()
+    }
+
     /// The clauses in the order in which they were added.
-    pub(crate) fn clauses(&self) -> Clauses<'_>
+    #[tactic(auto, using(crate::proofs::Proper::all_proper))]
+    pub fn clauses(&self) -> Clauses<'_>
         ensures clauses { result ≡ self.now.entries }
         ensures numbered { IsTrue (numbered 0 self.now.entries) }
+        ensures proper { All (IsProper self.now.n) self.now.entries }
         ensures limited { Limited (meaning_of self.now) }
+        ensures few { length self.now.entries ≤ 32768 }
+        ensures short { literal_count self.now.entries ≤ 32768 }
     {
         Clauses::new(self.records.items(), self.literals.items())
     }
 
+    /// The clause with this number, from 0, in the order in which they were added.
+    #[tactic(auto, using(crate::proofs::Proper::all_proper))]
+    pub fn clause(&self, number: usize) -> Option<Clause<'_>>
+        ensures clause { option_map as_entry result ≡ slice_get self.now.entries number }
+        ensures proper { All (IsProper self.now.n) self.now.entries }
+    {
+        let record = self.records.items().get(number)?;
+        Some(record.clause(self.literals.items()))
+    }
+
     /// Refuses to be asked for the set with the buffer where either does not fit.
-    pub(crate) fn check_question(&self, set: SoftSet, buffer: &[u8]) -> Result<(), Refusal>
+    pub fn check_question(&self, set: SoftSet, buffer: &[u8]) -> Result<(), Refusal>
         ensures { result_err result ≡ ask_refused (meaning_of self.now) set buffer.now }
     {
         if buffer.len() < self.n {
@@ -152,14 +212,14 @@ impl<'a> Tables<'a> {
     }
 
     /// Whether the assignment satisfies the hard clauses and those of the set.
-    pub(crate) fn meets(&self, set: SoftSet, assignment: &[u8]) -> bool
+    pub fn meets(&self, set: SoftSet, assignment: &[u8]) -> bool
         ensures { IsTrue result ↔ Meets (meaning_of self.now) set assignment.now }
     {
         self.clauses().all(|clause| clause.is_met(set, assignment))
     }
 
     /// Which soft clauses the assignment in the first n bytes breaks.
-    pub(crate) fn broken(&self, assignment: &[u8]) -> Result<SoftSet, Refusal>
+    pub fn broken(&self, assignment: &[u8]) -> Result<SoftSet, Refusal>
         ensures refusal { result_err result ≡ broken_refused (meaning_of self.now) assignment.now }
         ensures answer { ToldBroken (meaning_of self.now) assignment.now result }
     {

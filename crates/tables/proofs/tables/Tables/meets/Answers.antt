@@ -4,8 +4,8 @@ use Rattle.std.proofs.lemmas.Iterator.{cases_from_all}
 use Rattle.std.proofs.lemmas.Iterator.Consumers.{YieldsList-from_first}
 use Rattle.std.proofs.lemmas.Bool.Decides.{Decides-at}
 use Rattle.tables.specs.Entries.{Entry, as_entry}
-use Rattle.tables.specs.Trying.{met}
-use Rattle.tables.proofs.Meeting.{all_met, all_met_from_cases, met_decides}
+use Rattle.tables.specs.Trying.{met, all_met}
+use Rattle.tables.proofs.Meeting.{all_met_from_cases, met_decides}
 use Rattle.tables.proofs.tables.Tables.meets.Goals as goal
 
 pub returns : goal.returns

@@ -1,8 +1,9 @@
 use Rattle.std.proofs.Common.{◌≡◌, ◌+◌, ◌-◌, ◌≤◌, true, false, List, All, map, length, pos, ℤ, None, sym, ap, ◌∙◌, subst, arith}
 use Rattle.std.proofs.lemmas.List.{length-append}
+use Rattle.std.proofs.lemmas.List.Sums.{sum_by_push}
 use Rattle.std.proofs.lemmas.List.Elements.{All-append, All-from_get_or}
 use Rattle.terms.specs.Clauses.{bad_literal}
-use Rattle.tables.specs.Entries.{Entry, entry, softs, numbered, well_numbered, softs_after}
+use Rattle.tables.specs.Entries.{Entry, entry, literal_count, softs, numbered, well_numbered, softs_after}
 use Rattle.tables.specs.Table.{Table, meaning_of, refused_as, with_entry}
 use Rattle.tables.proofs.Pushed.{Accepted, accepted, entries_push, inside_push, numbered_push, length-softs_push, counted_push}
 use Rattle.tables.proofs.tables.Tables.push.Goals as goal
@@ -33,6 +34,8 @@ invariant_of-self c =
     record {
       limited = (v.limited.0, omega (arith, more, fitting, v.limited.1, v.counted, v.fitting));
       roomy = omega (arith, long);
+      few = omega (arith, ap length c.push.ensures.items ∙ length-append t.records.items _, v.few);
+      short = omega (arith, ap literal_count held ∙ sum_by_push (λ x. length x.clause) es e, v.short, long);
       inside = inside_push t.records.items (length t.literals.items) _ _ v.inside (omega (arith, long)) (omega (arith, long, start)) c.push.ensures.items;
       proper = subst (All (λ l. bad_literal t.n l ≡ false)) (sym c.extend.ensures.items)
           (All-append (λ l. bad_literal t.n l ≡ false) t.literals.items xs v.proper (All-from_get_or (λ l. bad_literal t.n l ≡ false) xs (pos 0) known.0.proper));
