@@ -1,0 +1,17 @@
+pub mod Growing
+pub mod Sounding
+pub mod Literals
+pub mod Reasoning
+pub mod Quieting
+pub mod Drawing
+pub mod Branching
+pub mod Modelling
+pub mod Joined
+pub mod Sweeping
+pub mod Standing
+pub mod Beginning
+pub mod Belonging
+pub mod Looking
+pub mod Next
+pub mod Trying
+pub mod Occurring

@@ -1,0 +1,27 @@
+-- What `Searching` says, for the clauses of a hunt and the soft ones that it is asked for.
+use Rattle.std.specs.Prelude.{ℕ, Bool, List, Option, Result, ℤ}
+use Rattle.search.specs.Searching.{Drawing, Excludes, Keeps, Next, Quiet, Searched, Sound}
+use Rattle.search.specs.declared.hunt.Hunt.{Hunt}
+use Rattle.search.specs.declared.reasons.Reason.{Reason}
+use Rattle.search.specs.declared.slots.Slot.{Slot}
+
+abbrev pub SoundIn : Hunt → List Slot → Type 0
+SoundIn h = Sound h.tables.now h.set
+
+abbrev pub QuietIn : Hunt → (ℕ → Bool) → List Slot → Type 0
+QuietIn h = Quiet h.tables.now h.set
+
+abbrev pub KeepsIn : Hunt → ℤ → List Slot → List Slot → Type 0
+KeepsIn h = Keeps h.tables.now h.set
+
+abbrev pub ExcludesIn : Hunt → List (Option Bool) → Reason → Type 0
+ExcludesIn h = Excludes h.tables.now h.set
+
+abbrev pub DrawingIn : Hunt → (ℕ → Bool) → List Slot → Result Unit Reason → List Slot → Type 0
+DrawingIn h = Drawing h.tables.now h.set
+
+abbrev pub NextIn : Hunt → List Slot → Option ℤ → Type 0
+NextIn h = Next h.tables.now h.set
+
+abbrev pub SearchedIn : Hunt → List (Option Bool) → List ℕ → Result Unit Reason → List ℕ → Type 0
+SearchedIn h = Searched h.tables.now h.set
