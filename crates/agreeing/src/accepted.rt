@@ -1,0 +1,96 @@
+//! The clauses that both finders have taken, kept apart from them, and what answers have to keep to.
+use crate::disagreements::Disagreement;
+use finders::Answer;
+use std::alloc::{AllocError, Global};
+use terms::{SoftSet, is_binary, satisfies};
+
+/// What each byte of a buffer is before a question.
+pub const UNTOUCHED: u8 = 7;
+
+/// The number of variables, and the clauses in their order.
+#[derive(Debug, Drop)]
+pub struct Accepted<'a> {
+    variables: usize,
+    hards: Vec<&'a [i32]>,
+    softs: Vec<&'a [i32]>,
+}
+
+impl<'a> Accepted<'a> {
+    pub fn new(alloc: Global, variables: usize) -> Accepted<'a> {
+        Accepted {
+            variables,
+            hards: Vec::new(alloc),
+            softs: Vec::new(alloc),
+        }
+    }
+
+    pub fn variables(&self) -> usize {
+        self.variables
+    }
+
+    pub fn soft_count(&self) -> usize {
+        self.softs.len()
+    }
+
+    pub fn add_hard(&mut self, clause: &'a [i32]) -> Result<(), AllocError> {
+        Ok(self.hards.push(clause)?)
+    }
+
+    pub fn add_soft(&mut self, clause: &'a [i32]) -> Result<(), AllocError> {
+        Ok(self.softs.push(clause)?)
+    }
+
+    /// The soft clauses that the assignment breaks.
+    pub fn broken_by(&self, assignment: &[u8]) -> SoftSet {
+        let mut broken = SoftSet::empty();
+        for (number, clause) in self.softs.iter().enumerate() {
+            if !satisfies(assignment, clause) {
+                broken = broken.insert(number);
+            }
+        }
+        broken
+    }
+
+    /// Whether the assignment satisfies the hard clauses and those of the set.
+    fn are_met(&self, set: SoftSet, assignment: &[u8]) -> bool {
+        self.hards
+            .iter()
+            .all(|clause| satisfies(assignment, clause))
+            && !self.broken_by(assignment).intersects(set)
+    }
+
+    /// Checks an answer to the question for the set, with what is in the buffer after it.
+    pub fn check(&self, set: SoftSet, answer: Answer, buffer: &[u8]) -> Result<(), Disagreement> {
+        match answer {
+            Answer::Model => self.check_model(set, buffer),
+            Answer::Core(core) => check_core(set, core, buffer),
+        }
+    }
+
+    /// A model has to satisfy what was asked for, and leaves the rest of the buffer.
+    fn check_model(&self, set: SoftSet, buffer: &[u8]) -> Result<(), Disagreement> {
+        let (model, rest) = buffer
+            .split_at_checked(self.variables)
+            .ok_or(Disagreement::ShortBuffer)?;
+        if !is_binary(model) || !self.are_met(set, model) {
+            return Err(Disagreement::NoModel);
+        }
+        check_untouched(rest)
+    }
+}
+
+/// A core lies within the set, and leaves the whole buffer.
+fn check_core(set: SoftSet, core: SoftSet, buffer: &[u8]) -> Result<(), Disagreement> {
+    if !core.is_subset(set) {
+        return Err(Disagreement::CoreOutside);
+    }
+    check_untouched(buffer)
+}
+
+/// Bytes that no answer may write.
+pub fn check_untouched(bytes: &[u8]) -> Result<(), Disagreement> {
+    if bytes.iter().any(|byte| *byte != UNTOUCHED) {
+        return Err(Disagreement::Written);
+    }
+    Ok(())
+}

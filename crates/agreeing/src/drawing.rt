@@ -1,0 +1,190 @@
+//! Draws inputs: how large each is, its clauses and its questions.
+ghost use Rattle.std.specs.Prelude.{◌<◌, ◌≤◌};
+
+use crate::dice::Dice;
+use crate::inputs::{Call, Input};
+use std::alloc::{AllocError, Global};
+use terms::SoftSet;
+
+// Enough for all clauses of an input.
+const CLAUSE_PLACES: usize = 90;
+
+const LITERAL_PLACES: usize = 600;
+
+/// How large an input is, how many of eight clauses are hard, and how short clauses can be.
+#[derive(Clone, Copy, Debug)]
+struct Outline {
+    variables: u8,
+    clauses: u8,
+    hard_of_eight: u8,
+    shortest: u8,
+}
+
+impl Outline {
+    /// Of fifty inputs, one has more soft clauses than a finder takes, and five have more variables than the others.
+    fn draw(dice: &mut Dice, number: usize) -> Outline {
+        match number % 50 {
+            0 => Outline {
+                variables: 1 + dice.below(4),
+                clauses: 70 + dice.below(10),
+                hard_of_eight: 0,
+                shortest: 0,
+            },
+            1..=5 => Outline {
+                variables: 9 + dice.below(2),
+                clauses: 20 + dice.below(21),
+                hard_of_eight: dice.below(5),
+                shortest: 2 + dice.below(2),
+            },
+            _ => Outline {
+                variables: dice.below(9),
+                clauses: 3 + dice.below(38),
+                hard_of_eight: dice.below(5),
+                shortest: dice.below(4),
+            },
+        }
+    }
+}
+
+/// Draws clauses and questions, and then a few clauses more and questions again.
+pub fn draw_input(alloc: Global, dice: &mut Dice, number: usize) -> Result<Input, AllocError> {
+    let outline = Outline::draw(dice, number);
+    let mut input = Input {
+        variables: outline.variables,
+        clause_places: draw_places(dice, CLAUSE_PLACES),
+        literal_places: draw_places(dice, LITERAL_PLACES),
+        calls: Vec::new(alloc),
+    };
+    for _ in 0..outline.clauses {
+        input.add(draw_clause(alloc, dice, outline)?)?;
+    }
+    draw_questions(alloc, dice, &mut input)?;
+    for _ in 0..1 + dice.below(4) {
+        input.add(draw_clause(alloc, dice, outline)?)?;
+    }
+    draw_questions(alloc, dice, &mut input)?;
+    Ok(input)
+}
+
+/// Mostly enough places, and now and then too few.
+fn draw_places(dice: &mut Dice, enough: usize) -> usize {
+    if dice.one_in(10) {
+        usize::from(dice.below(40))
+    } else {
+        enough
+    }
+}
+
+/// A hard or a soft clause.
+fn draw_clause(alloc: Global, dice: &mut Dice, outline: Outline) -> Result<Call, AllocError> {
+    let is_hard = dice.below(8) < outline.hard_of_eight;
+    let literals = draw_literals(alloc, dice, outline)?;
+    Ok(if is_hard {
+        Call::Hard(literals)
+    } else {
+        Call::Soft(literals)
+    })
+}
+
+/// Literals that may repeat each other or be opposites, now and then with a bad one behind them.
+fn draw_literals(alloc: Global, dice: &mut Dice, outline: Outline) -> Result<Vec<i32>, AllocError> {
+    let mut literals = Vec::new(alloc);
+    if outline.variables > 0 {
+        for _ in 0..draw_size(dice).max(outline.shortest) {
+            literals.push(draw_literal(dice, outline.variables))?;
+        }
+    }
+    if dice.one_in(100) {
+        literals.push(draw_bad_literal(dice, outline.variables))?;
+    }
+    Ok(literals)
+}
+
+/// Mostly one to three literals, and now and then as many as a clause may have, or one more.
+fn draw_size(dice: &mut Dice) -> u8 {
+    match dice.below(250) {
+        0 => 64 + dice.below(2),
+        1..=6 => 0,
+        7..=90 => 1,
+        91..=180 => 2,
+        181..=225 => 3,
+        226..=240 => 4,
+        _ => 5,
+    }
+}
+
+/// A literal of one of the variables.
+fn draw_literal(dice: &mut Dice, variables: u8) -> i32
+    requires { 0 < variables }
+{
+    let variable = 1 + i32::from(dice.below(variables));
+    if dice.one_in(2) { variable } else { -variable }
+}
+
+/// 0, or a literal of a variable that there is not.
+fn draw_bad_literal(dice: &mut Dice, variables: u8) -> i32 {
+    let variable = 1 + i32::from(variables) + i32::from(dice.below(3));
+    match dice.below(4) {
+        0 => variable,
+        1 => -variable,
+        2 => i32::MIN,
+        _ => 0,
+    }
+}
+
+/// Asks for some sets, and what some assignments break.
+fn draw_questions(alloc: Global, dice: &mut Dice, input: &mut Input) -> Result<(), AllocError> {
+    draw_asks(dice, input)?;
+    for _ in 0..2 {
+        let assignment = draw_assignment(alloc, dice, usize::from(input.variables))?;
+        input.add(Call::Broken(assignment))?;
+    }
+    Ok(())
+}
+
+/// Asks for no soft clause, for all and for some; now and then for one that is not given, or with too short a buffer.
+fn draw_asks(dice: &mut Dice, input: &mut Input) -> Result<(), AllocError> {
+    let variables = usize::from(input.variables);
+    let given = input.soft_count().min(64) as u8;
+    input.ask(SoftSet::empty(), variables)?;
+    input.ask(SoftSet::full(usize::from(given)), variables)?;
+    for _ in 0..3 {
+        let set = draw_set(dice, given);
+        input.ask(set, variables + usize::from(dice.below(3)))?;
+    }
+    if dice.one_in(5) {
+        let number = usize::from(given + dice.below(3));
+        input.ask(draw_set(dice, given).insert(number), variables)?;
+    }
+    if dice.one_in(5) {
+        input.ask(draw_set(dice, given), variables.saturating_sub(1))?;
+    }
+    Ok(())
+}
+
+/// Some of the lowest numbers that are given.
+fn draw_set(dice: &mut Dice, given: u8) -> SoftSet
+    requires { given ≤ 64 }
+{
+    let lowest = SoftSet::full(usize::from(dice.below(given + 1)));
+    lowest.minus(SoftSet::from_mask(dice.word()))
+}
+
+/// Values for the variables; now and then one too few, or with a byte that is no value, in front or behind.
+fn draw_assignment(
+    alloc: Global,
+    dice: &mut Dice,
+    variables: usize,
+) -> Result<Vec<u8>, AllocError> {
+    let mut assignment = Vec::new(alloc);
+    for _ in 0..variables {
+        assignment.push(dice.below(2))?;
+    }
+    match dice.below(20) {
+        0 => assignment.truncate(variables.saturating_sub(1)),
+        1 => assignment.insert(0, 2)?,
+        2 => assignment.push(2)?,
+        _ => {}
+    }
+    Ok(assignment)
+}

@@ -1,0 +1,47 @@
+//! What both finders are given: tables of some lengths, and calls one after another.
+use std::alloc::AllocError;
+use terms::{SoftSet, first_bad_literal};
+
+/// A call that is made on both finders.
+#[derive(Debug, Drop)]
+pub enum Call {
+    Hard(Vec<i32>),
+    Soft(Vec<i32>),
+    /// Asks for the set with a buffer of so many bytes.
+    Ask { set: SoftSet, bytes: usize },
+    /// Asks what the assignment breaks.
+    Broken(Vec<u8>),
+}
+
+/// The number of variables, the lengths of the two tables, and the calls.
+#[derive(Debug, Drop)]
+pub struct Input {
+    pub variables: u8,
+    pub clause_places: usize,
+    pub literal_places: usize,
+    pub calls: Vec<Call>,
+}
+
+impl Input {
+    /// How many soft clauses are accepted as long as there are places.
+    pub fn soft_count(&self) -> usize {
+        let variables = usize::from(self.variables);
+        self.calls
+            .iter()
+            .filter(|call| matches!(call, Call::Soft(clause) if is_taken(clause, variables)))
+            .count()
+    }
+
+    pub fn add(&mut self, call: Call) -> Result<(), AllocError> {
+        Ok(self.calls.push(call)?)
+    }
+
+    pub fn ask(&mut self, set: SoftSet, bytes: usize) -> Result<(), AllocError> {
+        self.add(Call::Ask { set, bytes })
+    }
+}
+
+/// Whether a clause is neither too long nor has a bad literal.
+fn is_taken(clause: &[i32], variables: usize) -> bool {
+    clause.len() <= 64 && first_bad_literal(clause, variables).is_none()
+}
