@@ -1,8 +1,9 @@
-//! Asks a finder, and the shrinking layer over it, which wishes for a pump skid can be had together.
+//! Asks two finders, and the shrinking layer over one, which wishes for a pump skid can be had together.
 #![tactic(auto)]
 
 use finders::{Answer, Finder};
 use itertools::Itertools;
+use search::Search;
 use shrinking::Shrinking;
 use std::alloc::{AllocError, Global};
 use std::io;
@@ -37,7 +38,10 @@ fn main(rt: HostRuntime) -> io::Result<()> {
     play(&rt, finder)?;
     println!(rt; "The shrinking layer over it answers.")?;
     let finder = CountThrough::new(&mut records, &mut literals, VARIABLES);
-    play(&rt, Shrinking::new(finder))
+    play(&rt, Shrinking::new(finder))?;
+    println!(rt; "The search answers.")?;
+    let finder = Search::new(&mut records, &mut literals, VARIABLES);
+    play(&rt, finder)
 }
 
 /// Enters the clauses, asks for sets of wishes, enters one clause more, and asks again.

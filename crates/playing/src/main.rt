@@ -1,4 +1,4 @@
-//! Plays jobs to their end, in both weight kinds, and shows each call with its answer and the bracket after it.
+//! Plays jobs to their end, on both finders and in both weight kinds, and shows each call with its answer and the bracket.
 #![tactic(auto)]
 
 use counting::CountThroughMaker;
@@ -6,6 +6,7 @@ use covers::CoverMaker;
 use finders::Finder;
 use itertools::Itertools;
 use jobs::Job;
+use search::Search;
 use shrinking::Shrinking;
 use std::{fmt, io};
 use tables::{ClauseRecord, CountThrough};
@@ -22,17 +23,25 @@ const WISHES: [&[i32]; 3] = [&[-1], &[-2], &[1]];
 const MOST_ROUNDS: usize = 33;
 
 fn main(rt: HostRuntime) -> io::Result<()> {
+    let mut records = [ClauseRecord::blank(); 6];
+    let mut literals = [0; 8];
     println!(rt; "Plain weights.")?;
-    play_worked_example(&rt, &[3, 5, 4].map(Plain::new))?;
+    let finder = CountThrough::new(&mut records, &mut literals, VARIABLES);
+    play_worked_example(&rt, finder, &[3, 5, 4].map(Plain::new))?;
+    println!(rt; "Plain weights, on the search.")?;
+    let finder = Search::new(&mut records, &mut literals, VARIABLES);
+    play_worked_example(&rt, finder, &[3, 5, 4].map(Plain::new))?;
     println!(rt; "Plain weights. The dear plan costs 4294967296, which 32 bits would count as 0.")?;
-    play_worked_example(&rt, &[3, 4_294_967_292, 4].map(Plain::new))?;
+    let finder = CountThrough::new(&mut records, &mut literals, VARIABLES);
+    play_worked_example(&rt, finder, &[3, 4_294_967_292, 4].map(Plain::new))?;
     println!(rt; "Level weights.")?;
     let weights = [
         Levels::new(0, 3, 0),
         Levels::new(0, 5, 1),
         Levels::new(1, 0, 2),
     ];
-    play_worked_example(&rt, &weights)?;
+    let finder = CountThrough::new(&mut records, &mut literals, VARIABLES);
+    play_worked_example(&rt, finder, &weights)?;
     println!(rt; "Level weights. The first plan is not the best, and a late wish makes it so.")?;
     let weights = [
         Levels::new(1, 0, 0),
@@ -51,13 +60,11 @@ fn main(rt: HostRuntime) -> io::Result<()> {
 }
 
 /// A best plan, a hard clause that it breaks, a best plan again, and a hard clause that leaves none.
-fn play_worked_example<W: WeightKind + fmt::Display>(
+fn play_worked_example<F: Finder + Drop, W: WeightKind + fmt::Display>(
     rt: &(impl Print + AllocGlobal),
+    finder: F,
     weights: &[W],
 ) -> io::Result<()> {
-    let mut records = [ClauseRecord::blank(); 6];
-    let mut literals = [0; 8];
-    let finder = CountThrough::new(&mut records, &mut literals, VARIABLES);
     let maker = CountThroughMaker::new(rt.alloc())?;
     let mut job = Job::open(Shrinking::new(finder), maker);
     enter(rt, &mut job, weights)?;
