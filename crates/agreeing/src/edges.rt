@@ -141,3 +141,33 @@ fn tables_of_4096_clauses_and_16384_literals_are_searched(rt: HostRuntime) -> Re
     );
     Ok(())
 }
+
+#[test]
+fn one_truth_is_tried_first(rt: HostRuntime) {
+    // No contract says which. These are the cases of the rule by which it is picked today.
+    assert_eq!(rt;
+        first_value(&[&[1, 2]]),
+        Some(1),
+        "nothing stands against it"
+    );
+    assert_eq!(rt; first_value(&[&[-1, -2]]), Some(0), "nothing wants it");
+    let twice: [&[i32]; 3] = [&[1, 5, 6], &[-1, 2, 3], &[-1, 2, 4]];
+    assert_eq!(rt; first_value(&twice), Some(0), "more stands against it");
+    let thrice: [&[i32]; 4] = [&[1, 5, 6], &[-1, 2, 3], &[-1, 2, 4], &[-1, 3, 4]];
+    assert_eq!(rt; first_value(&thrice), Some(1), "it settles far more");
+}
+
+/// The value of variable 1 in the model that the search finds.
+fn first_value(clauses: &[&[i32]]) -> Option<u8> {
+    let mut records = [ClauseRecord::blank(); 4];
+    let mut literals = [0; 12];
+    let mut finder = Search::new(&mut records, &mut literals, 6);
+    for clause in clauses {
+        finder.add_hard(clause).ok()?;
+    }
+    let mut buffer = [7; 6];
+    match finder.ask(SoftSet::empty(), &mut buffer) {
+        Ok(Answer::Model) => Some(buffer[0]),
+        _ => None,
+    }
+}
