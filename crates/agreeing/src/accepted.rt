@@ -1,22 +1,28 @@
 //! The clauses that both finders have taken, kept apart from them, and what answers have to keep to.
+ghost use Rattle.std.specs.Prelude.{◌≡◌, [], length};
+
 use crate::disagreements::Disagreement;
 use finders::Answer;
 use std::alloc::{AllocError, Global};
 use terms::{SoftSet, is_binary, satisfies};
 
 /// What each byte of a buffer is before a question.
-pub const UNTOUCHED: u8 = 7;
+pub(crate) const UNTOUCHED: u8 = 7;
 
 /// The number of variables, and the clauses in their order.
 #[derive(Debug, Drop)]
-pub struct Accepted<'a> {
+pub(crate) struct Accepted<'a> {
     variables: usize,
     hards: Vec<&'a [i32]>,
     softs: Vec<&'a [i32]>,
 }
 
 impl<'a> Accepted<'a> {
-    pub fn new(alloc: Global, variables: usize) -> Accepted<'a> {
+    pub(crate) fn new(alloc: Global, variables: usize) -> Accepted<'a>
+        ensures variables { result.variables ≡ variables }
+        ensures hards { result.hards.items ≡ [] }
+        ensures softs { result.softs.items ≡ [] }
+    {
         Accepted {
             variables,
             hards: Vec::new(alloc),
@@ -24,24 +30,28 @@ impl<'a> Accepted<'a> {
         }
     }
 
-    pub fn variables(&self) -> usize {
+    pub(crate) fn variables(&self) -> usize
+        ensures { result ≡ self.now.variables }
+    {
         self.variables
     }
 
-    pub fn soft_count(&self) -> usize {
+    pub(crate) fn soft_count(&self) -> usize
+        ensures { result ≡ length self.now.softs.items }
+    {
         self.softs.len()
     }
 
-    pub fn add_hard(&mut self, clause: &'a [i32]) -> Result<(), AllocError> {
+    pub(crate) fn add_hard(&mut self, clause: &'a [i32]) -> Result<(), AllocError> {
         Ok(self.hards.push(clause)?)
     }
 
-    pub fn add_soft(&mut self, clause: &'a [i32]) -> Result<(), AllocError> {
+    pub(crate) fn add_soft(&mut self, clause: &'a [i32]) -> Result<(), AllocError> {
         Ok(self.softs.push(clause)?)
     }
 
     /// The soft clauses that the assignment breaks.
-    pub fn broken_by(&self, assignment: &[u8]) -> SoftSet {
+    pub(crate) fn broken_by(&self, assignment: &[u8]) -> SoftSet {
         let mut broken = SoftSet::empty();
         for (number, clause) in self.softs.iter().enumerate() {
             if !satisfies(assignment, clause) {
@@ -60,7 +70,12 @@ impl<'a> Accepted<'a> {
     }
 
     /// Checks an answer to the question for the set, with what is in the buffer after it.
-    pub fn check(&self, set: SoftSet, answer: Answer, buffer: &[u8]) -> Result<(), Disagreement> {
+    pub(crate) fn check(
+        &self,
+        set: SoftSet,
+        answer: Answer,
+        buffer: &[u8],
+    ) -> Result<(), Disagreement> {
         match answer {
             Answer::Model => self.check_model(set, buffer),
             Answer::Core(core) => check_core(set, core, buffer),
@@ -88,7 +103,7 @@ fn check_core(set: SoftSet, core: SoftSet, buffer: &[u8]) -> Result<(), Disagree
 }
 
 /// Bytes that no answer may write.
-pub fn check_untouched(bytes: &[u8]) -> Result<(), Disagreement> {
+pub(crate) fn check_untouched(bytes: &[u8]) -> Result<(), Disagreement> {
     if bytes.iter().any(|byte| *byte != UNTOUCHED) {
         return Err(Disagreement::Written);
     }

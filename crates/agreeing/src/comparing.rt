@@ -9,14 +9,14 @@ use terms::{Refusal, SoftSet};
 
 /// A call, by its place among the calls, and what it showed.
 #[derive(Clone, Copy, PartialEq, Eq, Debug)]
-pub struct Finding {
-    pub place: usize,
-    pub disagreement: Disagreement,
+pub(crate) struct Finding {
+    pub(crate) place: usize,
+    pub(crate) disagreement: Disagreement,
 }
 
 /// Two finders, of which the first is plainly right, and the clauses that both have accepted.
 #[derive(Drop)]
-pub struct Comparison<'a, F, G> {
+pub(crate) struct Comparison<'a, F, G> {
     reference: F,
     tested: G,
     accepted: Accepted<'a>,
@@ -25,7 +25,7 @@ pub struct Comparison<'a, F, G> {
 
 impl<'a, F: Finder, G: Finder> Comparison<'a, F, G> {
     /// Finders that are to have so many variables and no clause.
-    pub fn new(alloc: Global, reference: F, tested: G, variables: usize) -> Self {
+    pub(crate) fn new(alloc: Global, reference: F, tested: G, variables: usize) -> Self {
         Comparison {
             reference,
             tested,
@@ -35,7 +35,7 @@ impl<'a, F: Finder, G: Finder> Comparison<'a, F, G> {
     }
 
     /// Makes the calls one after another, counts the replies, and stops at the first disagreement.
-    pub fn play(
+    pub(crate) fn play(
         &mut self,
         calls: &'a [Call],
         tally: &mut Tally,

@@ -1,22 +1,23 @@
 //! Numbers that look thrown, and are the same on each run.
-ghost use Rattle.std.specs.Prelude.{◌<◌};
+ghost use Rattle.std.specs.Prelude.{◌≡◌, ◌<◌};
 
 /// Goes from one number of 64 bits to the next by shifts.
 #[derive(Debug, Drop)]
-pub struct Dice {
+pub(crate) struct Dice {
     state: u64,
 }
 
 impl Dice {
     /// From 0 on, each number would be 0.
-    pub fn new(start: u64) -> Dice
+    pub(crate) fn new(start: u64) -> Dice
         requires { 0 < start }
+        ensures { result.state ≡ start }
     {
         Dice { state: start }
     }
 
     /// The next number of 64 bits.
-    pub fn word(&mut self) -> u64 {
+    pub(crate) fn word(&mut self) -> u64 {
         self.state ^= self.state << 13;
         self.state ^= self.state >> 7;
         self.state ^= self.state << 17;
@@ -24,7 +25,7 @@ impl Dice {
     }
 
     /// The next number below the limit.
-    pub fn below(&mut self, limit: u8) -> u8
+    pub(crate) fn below(&mut self, limit: u8) -> u8
         requires { 0 < limit }
         ensures { result < limit }
     {
@@ -32,7 +33,7 @@ impl Dice {
     }
 
     /// Whether now comes what comes about once in so many times.
-    pub fn one_in(&mut self, times: u8) -> bool
+    pub(crate) fn one_in(&mut self, times: u8) -> bool
         requires { 0 < times }
     {
         self.below(times) == 0

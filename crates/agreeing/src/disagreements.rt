@@ -4,7 +4,7 @@ use thiserror::Error;
 
 /// What is not as it should be with two finders that were given the same calls.
 #[derive(Clone, Copy, PartialEq, Eq, Debug, Error)]
-pub enum Disagreement {
+pub(crate) enum Disagreement {
     #[error("not both have the variables of the input")]
     Variables,
     #[error("not both have the soft clauses that were accepted")]
@@ -31,7 +31,7 @@ pub enum Disagreement {
 
 /// What ends a comparison before its last call.
 #[derive(Debug, Drop, Error)]
-pub enum Ending {
+pub(crate) enum Ending {
     #[error(transparent)]
     Disagreed(#[from] Disagreement),
     #[error(transparent)]

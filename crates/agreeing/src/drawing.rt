@@ -47,7 +47,11 @@ impl Outline {
 }
 
 /// Draws clauses and questions, and then a few clauses more and questions again.
-pub fn draw_input(alloc: Global, dice: &mut Dice, number: usize) -> Result<Input, AllocError> {
+pub(crate) fn draw_input(
+    alloc: Global,
+    dice: &mut Dice,
+    number: usize,
+) -> Result<Input, AllocError> {
     let outline = Outline::draw(dice, number);
     let mut input = Input {
         variables: outline.variables,

@@ -4,7 +4,7 @@ use terms::{SoftSet, first_bad_literal};
 
 /// A call that is made on both finders.
 #[derive(Debug, Drop)]
-pub enum Call {
+pub(crate) enum Call {
     Hard(Vec<i32>),
     Soft(Vec<i32>),
     /// Asks for the set with a buffer of so many bytes.
@@ -15,16 +15,16 @@ pub enum Call {
 
 /// The number of variables, the lengths of the two tables, and the calls.
 #[derive(Debug, Drop)]
-pub struct Input {
-    pub variables: u8,
-    pub clause_places: usize,
-    pub literal_places: usize,
-    pub calls: Vec<Call>,
+pub(crate) struct Input {
+    pub(crate) variables: u8,
+    pub(crate) clause_places: usize,
+    pub(crate) literal_places: usize,
+    pub(crate) calls: Vec<Call>,
 }
 
 impl Input {
     /// How many soft clauses are accepted as long as there are places.
-    pub fn soft_count(&self) -> usize {
+    pub(crate) fn soft_count(&self) -> usize {
         let variables = usize::from(self.variables);
         self.calls
             .iter()
@@ -32,11 +32,11 @@ impl Input {
             .count()
     }
 
-    pub fn add(&mut self, call: Call) -> Result<(), AllocError> {
+    pub(crate) fn add(&mut self, call: Call) -> Result<(), AllocError> {
         Ok(self.calls.push(call)?)
     }
 
-    pub fn ask(&mut self, set: SoftSet, bytes: usize) -> Result<(), AllocError> {
+    pub(crate) fn ask(&mut self, set: SoftSet, bytes: usize) -> Result<(), AllocError> {
         self.add(Call::Ask { set, bytes })
     }
 }

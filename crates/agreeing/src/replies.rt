@@ -5,7 +5,7 @@ use std::fmt;
 
 /// What came of a call, with the number of the refusal where both refused it.
 #[derive(Clone, Copy, PartialEq, Eq, PartialOrd, Ord, Debug)]
-pub enum Reply {
+pub(crate) enum Reply {
     Accepted,
     ClauseRefused(u8),
     Model,
@@ -33,9 +33,9 @@ impl fmt::Display for Reply {
 }
 
 /// How often each reply came.
-pub type Tally = BTreeMap<Reply, u64>;
+pub(crate) type Tally = BTreeMap<Reply, u64>;
 
-pub fn count(tally: &mut Tally, reply: Reply) -> Result<(), AllocError> {
+pub(crate) fn count(tally: &mut Tally, reply: Reply) -> Result<(), AllocError> {
     let times = tally.entry(reply)?.or_insert(0);
     *times = times.saturating_add(1);
     Ok(())
