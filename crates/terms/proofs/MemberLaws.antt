@@ -1,11 +1,12 @@
 -- Laws of the list of a set's members.
-use Rattle.std.proofs.Common.{◌≡◌, ℕ, zero, suc, ◌+◌, ◌<◌, ◌≤◌, [], ◌∷◌, true, false, not, ◌&&◌, eqb, refl, arith, length}
-use Rattle.std.specs.List.{filter, range_with_len, All}
+use Rattle.std.proofs.Common.{◌≡◌, ℕ, zero, suc, ◌+◌, ◌^◌, ◌<◌, ◌≤◌, [], ◌∷◌, Bool, true, false, not, ◌&&◌, eqb, ltb, leb, refl, arith, length}
+use Rattle.std.specs.List.{filter, list_any, range_with_len, All}
 use Rattle.std.proofs.lemmas.Bool.Decides.{nat_tests}
 use Rattle.std.proofs.lemmas.List.Elements.{All-filter}
 use Rattle.std.proofs.lemmas.List.FromFn.{length-range_with_len, get_or-range_with_len}
 use Rattle.std.proofs.lemmas.List.Sums.{length-filter, count_by-le-length}
 use Rattle.terms.specs.Masks.{member}
+use Rattle.terms.proofs.MaskLaws.{member_past}
 use Rattle.terms.specs.Sets.{members_of}
 
 module _ (m : ℕ) where
@@ -33,6 +34,16 @@ module _ (m : ℕ) where
       unfolding members_of
       members_of_least = listed_from 0 64 (omega arith)
 
+-- ---- all of them
+module _ (p : ℕ → Bool) (k : ℕ) where
+  listed_only : (a n : ℕ) → list_any (λ j. eqb j k) (filter p (range_with_len a n)) ≡ (p k && (leb a k && ltb k (a + n)))
+  listed_only a zero = grind (arith, nat_tests)
+  listed_only a (suc n) = grind (arith, nat_tests, listed_only (a + 1) n)
+
+pub members_of_all : (m k : ℕ) → m < 2 ^ 64 → member m k ≡ list_any (λ j. eqb j k) (members_of m)
+unfolding members_of
+members_of_all m k l = grind (arith, nat_tests, listed_only (member m) k 0 64, member_past 64 m k)
+
 -- ---- how great, and how many
 module _ (m n : ℕ) where
   listed_fit : All (λ k. k < n) (filter (member m) (range_with_len 0 n))
@@ -48,3 +59,5 @@ members_of_fit m = listed_fit m 64
 pub length-members_of : (m : ℕ) → length (members_of m) ≤ 64
 unfolding members_of
 length-members_of m = listed_length m 64
+
+pub ruleset listed_laws = (members_of_all, members_of_fit, length-members_of)

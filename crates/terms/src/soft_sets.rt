@@ -157,8 +157,10 @@ impl SoftSet {
     }
 
     /// The members, lowest first.
+    #[tactic(auto, using(crate::proofs::MemberLaws::listed_laws))]
     pub fn members(self) -> Members
         ensures value { result ≡ members_of self }
+        ensures all { (k : ℕ) → member self k ≡ list_any (λ number. number == k) result }
         ensures fits { All (λ k. k < capacity) result }
         ensures len { length result ≤ capacity }
     {
