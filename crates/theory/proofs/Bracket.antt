@@ -24,7 +24,8 @@ use Rattle.theory.specs.declared.states.Phase.{Phase}
 use Rattle.theory.specs.declared.states.Phase.TheVariants.{Quick, Exact}
 use Rattle.theory.specs.declared.states.Status.{Status}
 use Rattle.theory.specs.declared.states.Status.TheVariants.{Void, Unasked, Best, Open}
-use Rattle.theory.proofs.Charges.{le_self, same_is_equal, equal_is_same, higher_left, higher_right, cheaper_is, cost_more, broken_set}
+use Rattle.weights.proofs.SumLaws.{le_self, cost_more}
+use Rattle.theory.proofs.Charges.{same_is_equal, equal_is_same, higher_left, higher_right, cheaper_is, broken_set}
 use Rattle.theory.proofs.FreeSets.{free_sets, free_at_most, some_free, fewer_free}
 use Rattle.theory.proofs.Found.{found_is_proper, refused_is_full, found_is_new, staying_at_most, part_of_none}
 use Rattle.theory.proofs.Sound.{Sound, opens, hard_keeps, soft_keeps, higher_keeps, model_keeps, core_keeps, void_keeps, model_is_allowed, still_admitted, as_many}

@@ -5,27 +5,25 @@ use Rattle.std.specs.List.{zip}
 use Rattle.terms.specs.Clauses.{breaks}
 use Rattle.terms.specs.Masks.{member}
 use Rattle.terms.proofs.MaskLaws.{member-or, member_one, none_members}
-use Rattle.weights.specs.Costs.{cost_from, charge}
+use Rattle.weights.specs.Costs.{charge}
 use Rattle.weights.specs.Kinds.{Kind, Laws}
+use Rattle.weights.proofs.SumLaws.{le_self, more_left}
 use Rattle.theory.specs.States.{Plan, same}
 use Rattle.theory.specs.Changes.{higher, cheaper}
 
 module _ {W : Type 0} {K : Kind W} (laws : Laws K) where
-  pub le_self : (x : K.V) → K.le x x ≡ true
-  le_self x = grind (arith, laws.total x x)
-
   pub same_is_equal : (x y : K.V) → same K x y ≡ true → x ≡ y
   same_is_equal x y h = grind (arith, laws.antisym x y)
 
   pub equal_is_same : (x y : K.V) → x ≡ y → same K x y ≡ true
-  equal_is_same x y e = grind (arith, le_self x)
+  equal_is_same x y e = grind (arith, le_self laws x)
 
   -- ---- the higher of two
   pub higher_left : (x y : K.V) → K.le x (higher K x y) ≡ true
-  higher_left x y = grind (arith, le_self x, laws.total y x)
+  higher_left x y = grind (arith, le_self laws x, laws.total y x)
 
   pub higher_right : (x y : K.V) → K.le y (higher K x y) ≡ true
-  higher_right x y = grind (arith, le_self y)
+  higher_right x y = grind (arith, le_self laws y)
 
   pub higher_low : (x y z : K.V) → K.le x z ≡ true → K.le y z ≡ true → K.le (higher K x y) z ≡ true
   higher_low x y z p q = grind arith
@@ -34,14 +32,14 @@ module _ {W : Type 0} {K : Kind W} (laws : Laws K) where
   -- it is one of them, and costs no more than the new one
   pub cheaper_is : (kept : Option (Plan K.V)) (new : Plan K.V)
       → (plan : Plan K.V) × (cheaper K kept new ≡ Some plan) × (K.le plan.cost new.cost ≡ true) × ((kept ≡ Some plan) ⊎ (new ≡ plan))
-  cheaper_is None new = (new, refl, le_self new.cost, inr refl)
+  cheaper_is None new = (new, refl, le_self laws new.cost, inr refl)
   cheaper_is (Some old) new = by_test (K.le old.cost new.cost) refl
     where
       by_test : (b : Bool) → K.le old.cost new.cost ≡ b
           → (plan : Plan K.V) × (◌≡◌ {A = Option (Plan K.V)} (if b then Some old else Some new) (Some plan)) × (K.le plan.cost new.cost ≡ true)
           × ((Some old ≡ Some plan) ⊎ (new ≡ plan))
       by_test true e = (old, refl, e, inl refl)
-      by_test false e = (new, refl, le_self new.cost, inr refl)
+      by_test false e = (new, refl, le_self laws new.cost, inr refl)
 
   -- so what holds of either holds of it
   pub of_cheaper : (P : Plan K.V → Type 0) (kept : Option (Plan K.V)) (new : Plan K.V) → ((old : Plan K.V) → kept ≡ Some old → P old) → P new
@@ -52,26 +50,10 @@ module _ {W : Type 0} {K : Kind W} (laws : Laws K) where
       subst P i (⊎_elim (λ k. olds c.0 k) (λ k. subst P k h) c.3)
 
   -- ---- sums
-  more_left : (z x y : K.V) → K.le x y ≡ true → K.le (K.plus z x) (K.plus z y) ≡ true
-  more_left z x y h = grind (arith, laws.comm z x, laws.comm z y, laws.mono x y z)
-
-  more_both : (u v x y : K.V) → K.le u v ≡ true → K.le x y ≡ true → K.le (K.plus u x) (K.plus v y) ≡ true
-  more_both u v x y g h = laws.trans (K.plus u x) (K.plus v x) (K.plus v y) (laws.mono u v x g) (more_left v x y h)
-
   -- a soft clause more costs no less
   pub charge_more : (xs ys : List (W × List ℤ)) (a : List ℕ) → K.le (charge K xs a) (charge K (xs ++ ys) a) ≡ true
   charge_more [] ys a = laws.least (charge K ys a)
-  charge_more (x ∷ xs) ys a = more_left _ (charge K xs a) (charge K (xs ++ ys) a) (charge_more xs ys a)
-
-  -- what picks more costs no less
-  pick_more : (p q : Bool) (v : K.V) → (p ≡ true → q ≡ true) → K.le (if p then v else K.zero) (if q then v else K.zero) ≡ true
-  pick_more true q v h = grind (arith, le_self v)
-  pick_more false q v h = laws.least (if q then v else K.zero)
-
-  pub cost_more : (ws : List W) (p q : ℕ → Bool) (i : ℕ) → ((k : ℕ) → p k ≡ true → q k ≡ true) → K.le (cost_from K ws p i) (cost_from K ws q i) ≡ true
-  cost_more [] p q i h = le_self K.zero
-  cost_more (w ∷ ws) p q i h =
-      more_both _ _ (cost_from K ws p (suc i)) (cost_from K ws q (suc i)) (pick_more (p i) (q i) (K.value w) (h i)) (cost_more ws p q (suc i) h)
+  charge_more (x ∷ xs) ys a = more_left laws _ (charge K xs a) (charge K (xs ++ ys) a) (charge_more xs ys a)
 
 -- ---- weights beside clauses
 pub zip_of_parts : {A B : Type 0} (xs : List (A × B)) → zip (map (λ x. x.0) xs) (map (λ x. x.1) xs) ≡ xs

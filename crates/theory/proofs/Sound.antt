@@ -24,7 +24,8 @@ use Rattle.theory.specs.Changes.{priced, unbroken, higher, after_hard, after_sof
 use Rattle.theory.specs.Logs.{AllowedBy, JustOpened}
 use Rattle.theory.specs.declared.states.Phase.{Phase}
 use Rattle.theory.proofs.Found.{by_contradiction}
-use Rattle.theory.proofs.Charges.{le_self, higher_low, of_cheaper, charge_more, zip_of_parts, broken_set}
+use Rattle.weights.proofs.SumLaws.{le_self}
+use Rattle.theory.proofs.Charges.{higher_low, of_cheaper, charge_more, zip_of_parts, broken_set}
 
 -- ---- the parts of a job after a log, by its accepted hard clauses and its accepted soft clauses
 -- the finder's clauses and the maker's weights are the accepted ones
