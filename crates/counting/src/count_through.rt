@@ -2,7 +2,6 @@
 ghost use Rattle.std.specs.Prelude.{◌≡◌, ◌+◌, ◌≤◌, length, IfOk, true};
 ghost use Rattle.covers.specs.Covers.{is_cover, Minimal};
 ghost use Rattle.covers.specs.Meanings.{fresh, Limited};
-ghost use Rattle.counting.specs.Trying.{NoDearer, Smaller};
 
 use covers::CoverMaker;
 use std::alloc::{AllocError, Global};
@@ -28,31 +27,6 @@ impl<W: WeightKind> CountThroughMaker<W> {
         Ok(CountThroughMaker {
             store: Store::new(alloc, 16)?,
         })
-    }
-
-    /// The cover without the number, where the rest is one; otherwise the cover.
-    #[tactic(auto, using(covers::proofs::CoverLaws::needs, terms::proofs::MaskLaws::subset_members))]
-    fn spare(&self, cover: SoftSet, number: usize) -> SoftSet
-        requires { is_cover (maker_meaning self.now) cover ≡ true }
-        ensures { Smaller (maker_meaning self.now) cover number result }
-    {
-        let rest = cover.remove(number);
-        if self.store.is_cover(rest) {
-            rest
-        } else {
-            cover
-        }
-    }
-
-    /// The set, where it is a cover too and costs less; otherwise the cover.
-    fn cheaper(&self, set: SoftSet, cover: SoftSet) -> SoftSet
-        ensures { NoDearer W.kind (maker_meaning self.now) set cover result }
-    {
-        if self.store.is_cover(set) && self.store.sum(set) < self.store.sum(cover) {
-            set
-        } else {
-            cover
-        }
     }
 }
 
@@ -97,7 +71,7 @@ impl<W: WeightKind> CoverMaker for CountThroughMaker<W> {
     {
         let mut cover = SoftSet::full(self.store.soft_count());
         for number in 0..self.store.soft_count() {
-            cover = self.spare(cover, number);
+            cover = self.store.spare(cover, number);
         }
         cover
     }
@@ -106,7 +80,7 @@ impl<W: WeightKind> CoverMaker for CountThroughMaker<W> {
     fn least_cover(&self) -> SoftSet {
         let mut least = self.cover();
         for mask in 0..1 << self.store.soft_count() {
-            least = self.cheaper(SoftSet::from_mask(mask), least);
+            least = self.store.cheaper(SoftSet::from_mask(mask), least);
         }
         least
     }

@@ -1,5 +1,5 @@
 //! What a cover maker keeps, with the rules by which weights and cores are added.
-ghost use Rattle.std.specs.Prelude.{◌≡◌, ◌≤◌, not, min, length, Some, IfOk, ◌++◌, ◌∷◌, []};
+ghost use Rattle.std.specs.Prelude.{◌≡◌, ℕ, ◌≤◌, not, min, if◌then◌else◌, length, Some, IfOk, IsTrue, ◌++◌, ◌∷◌, []};
 ghost use Rattle.std.specs.List.{list_all};
 ghost use Rattle.std.specs.Result.{result_err};
 ghost use Rattle.std.specs.Vec.{vec_len, vec_capacity};
@@ -11,6 +11,7 @@ ghost use Rattle.weights.specs.Kinds.{Totals};
 ghost use Rattle.covers.specs.Meanings.{fresh, with_weight, with_core, has_part, staying, Limited};
 ghost use Rattle.covers.specs.Covers.{is_cover, AlsoMeets};
 ghost use Rattle.covers.specs.Refused.{weight_refused, no_core_place, core_refused, cost_refused};
+ghost use Rattle.stores.specs.Trying.{cheaper_of, NoDearer, Smaller, Without};
 
 use std::alloc::{AllocError, Global};
 use std::marker::Model;
@@ -69,6 +70,20 @@ impl<W: WeightKind> Store<W> {
         ensures { result ≡ length self.now.cores }
     {
         self.cores.len()
+    }
+
+    /// The weights, each at the place of its number.
+    pub fn weights(&self) -> &[W]
+        ensures { result.now ≡ self.now.weights }
+    {
+        &self.weights
+    }
+
+    /// The kept cores, in the order in which they came.
+    pub fn cores(&self) -> &[SoftSet]
+        ensures { result.now ≡ self.now.cores }
+    {
+        &self.cores
     }
 
     /// Why adding the weight would be refused, if it would.
@@ -195,6 +210,28 @@ impl<W: WeightKind> Store<W> {
         ensures { result ≡ list_all (intersect set) self.now.cores }
     {
         self.cores.iter().all(|core| set.intersects(*core))
+    }
+
+    /// The cover without the number, where the rest is one; otherwise the cover.
+    #[tactic(auto, using(covers::proofs::CoverLaws::needs, terms::proofs::MaskLaws::subset_members))]
+    pub fn spare(&self, cover: SoftSet, number: usize) -> SoftSet
+        ensures value { (rest : ℕ) → Without cover number rest → result ≡ (if is_cover self.now rest then rest else cover) }
+        ensures smaller { IsTrue (is_cover self.now cover) → Smaller self.now cover number result }
+    {
+        let rest = cover.remove(number);
+        if self.is_cover(rest) { rest } else { cover }
+    }
+
+    /// The set, where it is a cover too and costs less; otherwise the cover.
+    pub fn cheaper(&self, set: SoftSet, cover: SoftSet) -> SoftSet
+        ensures value { result ≡ cheaper_of W.kind self.now set cover }
+        ensures no_dearer { NoDearer W.kind self.now set cover result }
+    {
+        if self.is_cover(set) && self.sum(set) < self.sum(cover) {
+            set
+        } else {
+            cover
+        }
     }
 }
 
