@@ -1,0 +1,90 @@
+-- Sets with one number more, and their masks as numbers.
+use Rattle.std.proofs.Common.{◌≡◌, ℕ, ◌+◌, ◌-◌, ◌<◌, ◌≤◌, ◌^◌, Bool, true, false, bit_and, ⊎_elim, sym, ap, ◌&&◌, ◌||◌, List, [], ◌∷◌, ◌∙◌, refl, arith, subst}
+use Rattle.std.specs.Prelude.{◌==◌}
+use Rattle.std.specs.List.{list_all, list_any}
+use Rattle.std.proofs.lemmas.Bool.{both_ways, cases_lt, eqb-true, ltb-true}
+use Rattle.std.proofs.lemmas.Nat.{and_le_r}
+use Rattle.std.proofs.lemmas.Bool.Decides.{nat_tests}
+use Rattle.terms.specs.Masks.{member, subset, intersect, below}
+use Rattle.terms.specs.Sets.{fits}
+use Rattle.terms.proofs.MaskLaws.{subset_members, intersect_members, below_members}
+
+-- what is listed and nothing else passes the test, so all that is listed does
+pub all_listed : (p : ℕ → Bool) (ks : List ℕ) → ((k : ℕ) → p k ≡ list_any (λ j. j == k) ks) → list_all p ks ≡ true
+all_listed p ks e = from ks (λ k h. e k ∙ h)
+  where
+    here : (k : ℕ) (js : List ℕ) → list_any (λ j. j == k) (k ∷ js) ≡ true
+    here k js = grind (arith, nat_tests)
+
+    from : (js : List ℕ) → ((k : ℕ) → list_any (λ j. j == k) js ≡ true → p k ≡ true) → list_all p js ≡ true
+    from [] h = refl
+    from (j ∷ js) h = grind (arith, nat_tests, h j (here j js), from js (λ k t. h k (grind (arith, nat_tests, t))))
+
+pub next_passes : (p : ℕ → Bool) (k : ℕ) (items rest : List ℕ) → items ≡ k ∷ rest → list_all p items ≡ true → (p k ≡ true) × (list_all p rest ≡ true)
+next_passes p k items rest e h = let both = subst (λ ks. list_all p ks ≡ true) e h in (grind (arith, both), grind (arith, both))
+
+pub below_none : (x : ℕ) → ((k : ℕ) → member x k ≡ false) → below 64 x ≡ true
+below_none x none = grind (arith, nat_tests, none, below_members 64 x)
+
+pub none_within : (x y : ℕ) → ((k : ℕ) → member x k ≡ false) → subset x y ≡ true
+none_within x y none = grind (arith, nat_tests, none, subset_members x y)
+
+pub none_apart : (x y : ℕ) → ((k : ℕ) → member x k ≡ false) → intersect x y ≡ false
+none_apart x y none = grind (arith, nat_tests, none, intersect_members x y)
+
+-- ---- a set, and the same with one number more
+pub subset_self : (x : ℕ) → subset x x ≡ true
+subset_self x = grind (arith, nat_tests, subset_members x x)
+
+pub subset_trans : (x y z : ℕ) → subset x y ≡ true → subset y z ≡ true → subset x z ≡ true
+subset_trans x y z a b = grind (arith, nat_tests, a, b, subset_members x y, subset_members y z, subset_members x z)
+
+-- ---- masks as numbers
+pub below_mask : (x : ℕ) → below 64 x ≡ true → x < 2 ^ 64
+unfolding below
+below_mask x h = omega (arith, ltb-true x (2 ^ 64) h)
+
+not_within : (x y k : ℕ) → member x k ≡ true → member y k ≡ false → subset x y ≡ false
+not_within x y k a b = grind (arith, nat_tests, a, b, subset_members x y)
+
+-- a part is no greater
+pub part_at_most : (x y : ℕ) → subset x y ≡ true → x ≤ y
+unfolding subset
+part_at_most x y h = omega (arith, and_le_r x y, eqb-true (bit_and x y) x h)
+
+-- a set with more members is the greater number
+pub greater : (x y : ℕ) → subset x y ≡ true → subset y x ≡ false → x < y
+greater x y s n = ⊎_elim (λ less. less) (λ more. absurd (both_ways (subset y x) n (grind (arith, same (omega (arith, more, part_at_most x y s)), subset_self x)))) (cases_lt x y)
+  where
+    same : x ≡ y → subset y x ≡ subset x x
+    same i = ap (λ z. subset z x) (sym i)
+
+module _ (x more number : ℕ) (e : (k : ℕ) → member more k ≡ (member x k || (number == k && fits k))) where
+  pub subset_with : subset x more ≡ true
+  subset_with = grind (arith, nat_tests, e, subset_members x more)
+
+  pub below_with : below 64 x ≡ true → below 64 more ≡ true
+  below_with h = grind (arith, nat_tests, h, e, below_members 64 x, below_members 64 more)
+
+  pub within_with : (set : ℕ) → subset x set ≡ true → member set number ≡ true → subset more set ≡ true
+  within_with set s h = grind (arith, nat_tests, e, s, h, subset_members x set, subset_members more set)
+
+  pub apart_with : (set : ℕ) → intersect x set ≡ false → member set number ≡ false → intersect more set ≡ false
+  apart_with set a h = grind (arith, nat_tests, e, a, h, intersect_members x set, intersect_members more set)
+
+  pub grows_with : member x number ≡ false → number < 64 → below 64 x ≡ true → (x < more) × (more < 2 ^ 64)
+  grows_with a l b =
+      (greater x more subset_with (not_within more x number (grind (arith, nat_tests, e, l)) a), below_mask more (below_with b))
+
+-- ---- how much is undecided: it falls as a set of numbers that are settled grows
+abbrev pub undecided : ℕ → ℕ → ℕ
+undecided chosen out = (2 ^ 64 - chosen) + (2 ^ 64 - out)
+
+pub fewer_chosen : (x y z : ℕ) → subset x y ≡ true → undecided y z ≤ undecided x z
+fewer_chosen x y z s = omega (arith, part_at_most x y s)
+
+pub falls_chosen : (x y z : ℕ) → x < y → y < 2 ^ 64 → undecided y z < undecided x z
+falls_chosen x y z l b = omega (arith, l, b)
+
+pub falls_out : (x y z : ℕ) → y < z → z < 2 ^ 64 → undecided x z < undecided x y
+falls_out x y z l b = omega (arith, l, b)
