@@ -1,8 +1,8 @@
 //! Draws inputs: how large each is, its clauses and its questions.
-ghost use Rattle.std.specs.Prelude.{◌<◌, ◌≤◌};
+ghost use Rattle.std.specs.Prelude.{◌<◌};
 
-use crate::dice::Dice;
 use crate::inputs::{Call, Input};
+use dice::Dice;
 use std::alloc::{AllocError, Global};
 use terms::SoftSet;
 
@@ -25,22 +25,22 @@ impl Outline {
     fn draw(dice: &mut Dice, number: usize) -> Outline {
         match number % 50 {
             0 => Outline {
-                variables: 1 + dice.below(4),
-                clauses: 70 + dice.below(10),
+                variables: 1 + dice.up_to(3),
+                clauses: 70 + dice.up_to(9),
                 hard_of_eight: 0,
                 shortest: 0,
             },
             1..=5 => Outline {
-                variables: 9 + dice.below(2),
-                clauses: 20 + dice.below(21),
-                hard_of_eight: dice.below(5),
-                shortest: 2 + dice.below(2),
+                variables: 9 + dice.up_to(1),
+                clauses: 20 + dice.up_to(20),
+                hard_of_eight: dice.up_to(4),
+                shortest: 2 + dice.up_to(1),
             },
             _ => Outline {
-                variables: dice.below(9),
-                clauses: 3 + dice.below(38),
-                hard_of_eight: dice.below(5),
-                shortest: dice.below(4),
+                variables: dice.up_to(8),
+                clauses: 3 + dice.up_to(37),
+                hard_of_eight: dice.up_to(4),
+                shortest: dice.up_to(3),
             },
         }
     }
@@ -63,7 +63,7 @@ pub(crate) fn draw_input(
         input.add(draw_clause(alloc, dice, outline)?)?;
     }
     draw_questions(alloc, dice, &mut input)?;
-    for _ in 0..1 + dice.below(4) {
+    for _ in 0..1 + dice.up_to(3) {
         input.add(draw_clause(alloc, dice, outline)?)?;
     }
     draw_questions(alloc, dice, &mut input)?;
@@ -73,7 +73,7 @@ pub(crate) fn draw_input(
 /// Mostly enough places, and now and then too few.
 fn draw_places(dice: &mut Dice, enough: usize) -> usize {
     if dice.one_in(10) {
-        usize::from(dice.below(40))
+        usize::from(dice.up_to(39))
     } else {
         enough
     }
@@ -81,7 +81,7 @@ fn draw_places(dice: &mut Dice, enough: usize) -> usize {
 
 /// A hard or a soft clause.
 fn draw_clause(alloc: Global, dice: &mut Dice, outline: Outline) -> Result<Call, AllocError> {
-    let is_hard = dice.below(8) < outline.hard_of_eight;
+    let is_hard = dice.up_to(7) < outline.hard_of_eight;
     let literals = draw_literals(alloc, dice, outline)?;
     Ok(if is_hard {
         Call::Hard(literals)
@@ -106,8 +106,8 @@ fn draw_literals(alloc: Global, dice: &mut Dice, outline: Outline) -> Result<Vec
 
 /// Mostly one to three literals, and now and then as many as a clause may have, or one more.
 fn draw_size(dice: &mut Dice) -> u8 {
-    match dice.below(250) {
-        0 => 64 + dice.below(2),
+    match dice.up_to(249) {
+        0 => 64 + dice.up_to(1),
         1..=6 => 0,
         7..=90 => 1,
         91..=180 => 2,
@@ -121,14 +121,14 @@ fn draw_size(dice: &mut Dice) -> u8 {
 fn draw_literal(dice: &mut Dice, variables: u8) -> i32
     requires { 0 < variables }
 {
-    let variable = 1 + i32::from(dice.below(variables));
+    let variable = 1 + i32::from(dice.up_to(variables - 1));
     if dice.one_in(2) { variable } else { -variable }
 }
 
 /// 0, or a literal of a variable that there is not.
 fn draw_bad_literal(dice: &mut Dice, variables: u8) -> i32 {
-    let variable = 1 + i32::from(variables) + i32::from(dice.below(3));
-    match dice.below(4) {
+    let variable = 1 + i32::from(variables) + i32::from(dice.up_to(2));
+    match dice.up_to(3) {
         0 => variable,
         1 => -variable,
         2 => i32::MIN,
@@ -154,10 +154,10 @@ fn draw_asks(dice: &mut Dice, input: &mut Input) -> Result<(), AllocError> {
     input.ask(SoftSet::full(usize::from(given)), variables)?;
     for _ in 0..3 {
         let set = draw_set(dice, given);
-        input.ask(set, variables + usize::from(dice.below(3)))?;
+        input.ask(set, variables + usize::from(dice.up_to(2)))?;
     }
     if dice.one_in(5) {
-        let number = usize::from(given + dice.below(3));
+        let number = usize::from(given + dice.up_to(2));
         input.ask(draw_set(dice, given).insert(number), variables)?;
     }
     if dice.one_in(5) {
@@ -167,10 +167,8 @@ fn draw_asks(dice: &mut Dice, input: &mut Input) -> Result<(), AllocError> {
 }
 
 /// Some of the lowest numbers that are given.
-fn draw_set(dice: &mut Dice, given: u8) -> SoftSet
-    requires { given ≤ 64 }
-{
-    let lowest = SoftSet::full(usize::from(dice.below(given + 1)));
+fn draw_set(dice: &mut Dice, given: u8) -> SoftSet {
+    let lowest = SoftSet::full(usize::from(dice.up_to(given)));
     lowest.minus(SoftSet::from_mask(dice.word()))
 }
 
@@ -182,9 +180,9 @@ fn draw_assignment(
 ) -> Result<Vec<u8>, AllocError> {
     let mut assignment = Vec::new(alloc);
     for _ in 0..variables {
-        assignment.push(dice.below(2))?;
+        assignment.push(dice.up_to(1))?;
     }
-    match dice.below(20) {
+    match dice.up_to(19) {
         0 => assignment.truncate(variables.saturating_sub(1)),
         1 => assignment.insert(0, 2)?,
         2 => assignment.push(2)?,

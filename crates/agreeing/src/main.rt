@@ -3,7 +3,6 @@
 
 mod accepted;
 mod comparing;
-mod dice;
 mod disagreements;
 mod drawing;
 #[cfg(test)]
