@@ -1,6 +1,7 @@
-//! Asks a cover maker which wishes for a pump skid are best given up, in both weight kinds.
+//! Asks both cover makers which wishes for a pump skid are best given up, in both weight kinds.
 #![tactic(auto)]
 
+use branching::BranchAndBoundMaker;
 use counting::CountThroughMaker;
 use covers::CoverMaker;
 use itertools::Itertools;
@@ -30,12 +31,12 @@ const CORES: [&[usize]; 11] = [
 fn main(rt: HostRuntime) -> io::Result<()> {
     println!(rt; "Plain weights.")?;
     let weights = [12, 30, 0, 5, 12, 2, u64::MAX].map(Plain::new);
-    play(&rt, CountThroughMaker::new(rt.alloc())?, &weights)?;
+    play_plain(&rt, &weights)?;
     println!(rt;
         "Plain weights. Three of them come to 4294967296, which 32 bits would count as 0."
     )?;
     let weights = [4_294_967_294, 30, 1, 12, 1].map(Plain::new);
-    play(&rt, CountThroughMaker::new(rt.alloc())?, &weights)?;
+    play_plain(&rt, &weights)?;
     println!(rt; "Level weights. A level outweighs all later ones.")?;
     let weights = [
         Levels::new(0, 9, 0),
@@ -45,7 +46,21 @@ fn main(rt: HostRuntime) -> io::Result<()> {
         Levels::new(0, u32::MAX, 0),
         Levels::new(0, 0, 2),
     ];
-    play(&rt, CountThroughMaker::new(rt.alloc())?, &weights)
+    play_levels(&rt, &weights)
+}
+
+/// Plays plain weights on the count-through maker, and then on the branch-and-bound maker.
+fn play_plain(rt: &(impl Print + AllocGlobal), weights: &[Plain]) -> io::Result<()> {
+    play(rt, CountThroughMaker::new(rt.alloc())?, weights)?;
+    println!(rt; "The same on the branch-and-bound maker.")?;
+    play(rt, BranchAndBoundMaker::new(rt.alloc())?, weights)
+}
+
+/// Plays level weights on both makers too.
+fn play_levels(rt: &(impl Print + AllocGlobal), weights: &[Levels]) -> io::Result<()> {
+    play(rt, CountThroughMaker::new(rt.alloc())?, weights)?;
+    println!(rt; "The same on the branch-and-bound maker.")?;
+    play(rt, BranchAndBoundMaker::new(rt.alloc())?, weights)
 }
 
 /// Adds the weights and the cores, and shows what the maker answers and which covers it finds.

@@ -1,6 +1,8 @@
-//! Plays jobs to their end, on both finders and in both weight kinds, and shows each call with its answer and the bracket.
+//! Plays jobs to their end, on both finders, on both cover makers and in both weight kinds, and shows each call with its answer
+//! and the bracket.
 #![tactic(auto)]
 
+use branching::BranchAndBoundMaker;
 use counting::CountThroughMaker;
 use covers::CoverMaker;
 use finders::Finder;
@@ -27,13 +29,20 @@ fn main(rt: HostRuntime) -> io::Result<()> {
     let mut literals = [0; 8];
     println!(rt; "Plain weights.")?;
     let finder = CountThrough::new(&mut records, &mut literals, VARIABLES);
-    play_worked_example(&rt, finder, &[3, 5, 4].map(Plain::new))?;
+    let maker = CountThroughMaker::new(rt.alloc())?;
+    play_worked_example(&rt, finder, maker, &[3, 5, 4].map(Plain::new))?;
     println!(rt; "Plain weights, on the search.")?;
     let finder = Search::new(&mut records, &mut literals, VARIABLES);
-    play_worked_example(&rt, finder, &[3, 5, 4].map(Plain::new))?;
+    let maker = CountThroughMaker::new(rt.alloc())?;
+    play_worked_example(&rt, finder, maker, &[3, 5, 4].map(Plain::new))?;
+    println!(rt; "Plain weights, on the search and the branch-and-bound maker.")?;
+    let finder = Search::new(&mut records, &mut literals, VARIABLES);
+    let maker = BranchAndBoundMaker::new(rt.alloc())?;
+    play_worked_example(&rt, finder, maker, &[3, 5, 4].map(Plain::new))?;
     println!(rt; "Plain weights. The dear plan costs 4294967296, which 32 bits would count as 0.")?;
     let finder = CountThrough::new(&mut records, &mut literals, VARIABLES);
-    play_worked_example(&rt, finder, &[3, 4_294_967_292, 4].map(Plain::new))?;
+    let maker = CountThroughMaker::new(rt.alloc())?;
+    play_worked_example(&rt, finder, maker, &[3, 4_294_967_292, 4].map(Plain::new))?;
     println!(rt; "Level weights.")?;
     let weights = [
         Levels::new(0, 3, 0),
@@ -41,7 +50,8 @@ fn main(rt: HostRuntime) -> io::Result<()> {
         Levels::new(1, 0, 2),
     ];
     let finder = CountThrough::new(&mut records, &mut literals, VARIABLES);
-    play_worked_example(&rt, finder, &weights)?;
+    let maker = CountThroughMaker::new(rt.alloc())?;
+    play_worked_example(&rt, finder, maker, &weights)?;
     println!(rt; "Level weights. The first plan is not the best, and a late wish makes it so.")?;
     let weights = [
         Levels::new(1, 0, 0),
@@ -60,15 +70,18 @@ fn main(rt: HostRuntime) -> io::Result<()> {
 }
 
 /// A best plan, a hard clause that it breaks, a best plan again, and a hard clause that leaves none.
-fn play_worked_example<F: Finder + Drop, W: WeightKind + fmt::Display>(
+fn play_worked_example<F: Finder + Drop, C: CoverMaker + Drop>(
     rt: &(impl Print + AllocGlobal),
     finder: F,
-    weights: &[W],
-) -> io::Result<()> {
-    let maker = CountThroughMaker::new(rt.alloc())?;
+    maker: C,
+    weights: &[C::Weight],
+) -> io::Result<()>
+where
+    C::Weight: fmt::Display,
+{
     let mut job = Job::open(Shrinking::new(finder), maker);
     enter(rt, &mut job, weights)?;
-    add_soft(rt, &mut job, W::zero(), &[2])?;
+    add_soft(rt, &mut job, C::Weight::zero(), &[2])?;
     add_hard(rt, &mut job, &[1, 3])?;
     play_rounds(rt, &mut job)?;
     add_hard(rt, &mut job, &[-1])?;
