@@ -1,0 +1,5 @@
+pub mod Instructions
+pub mod Texts
+pub mod Sessions
+pub mod Outputs
+pub mod Workers

@@ -1,0 +1,70 @@
+//! Prints the state of a job.
+ghost use Rattle.std.specs.Prelude.{◌≡◌, ◌++◌, IfOk, option_map, string_bytes, flat_map, decimal};
+ghost use Rattle.jobs.specs.Jobs.{state};
+ghost use Rattle.sessions.specs.Texts.{state_text, plan_text, ceiling_text};
+ghost use Rattle.texts.specs.Weights.{weight_text};
+
+use covers::CoverMaker;
+use finders::Finder;
+use jobs::Job;
+use std::alloc::{AllocError, Global};
+use texts::{WeightForm, WeightText};
+use weights::WeightKind;
+
+/// Prints the status, the floor, the ceiling and the kept assignment, each after a tab.
+pub(crate) fn show<F: Finder, C: CoverMaker>(
+    alloc: Global,
+    form: WeightForm,
+    job: &Job<F, C>,
+    output: &mut String,
+) -> Result<(), AllocError>
+    ensures { IfOk result (λ _. string_bytes output.new ≡ string_bytes output.old ++ state_text C.Weight.kind form (state job.now)) }
+{
+    let bracket = job.bracket();
+    let status = job.status();
+    let floor = written(form, bracket.floor);
+    write!(output, "q\t{status}\t{floor}\t")?;
+    match (bracket.ceiling, kept_values(alloc, job)?) {
+        (Some(ceiling), Some(values)) => {
+            let ceiling = written(form, ceiling);
+            write!(output, "{ceiling}\t")?;
+            put_values(output, &values)?;
+        }
+        _ => write!(output, "-\t-")?,
+    }
+    output.push('\n')
+}
+
+/// A weight in the form in which it is printed.
+fn written<W: WeightKind>(form: WeightForm, weight: W) -> WeightText
+    ensures { weight_text result.form result.numbers ≡ weight_text form (W.WeightKind.kind.numbers (W.WeightKind.kind.value weight)) }
+{
+    WeightText {
+        form,
+        numbers: weight.to_numbers(),
+    }
+}
+
+/// The values of the kept assignment, if there is one.
+fn kept_values<F: Finder, C: CoverMaker>(
+    alloc: Global,
+    job: &Job<F, C>,
+) -> Result<Option<Vec<u8>>, AllocError>
+    ensures { IfOk result (λ kept. option_map (λ v. v.items) kept ≡ option_map (λ p. p.values) (state job.now).kept) }
+{
+    let mut values = vec![in alloc; 0; job.variable_count()]?;
+    match job.copy_kept(&mut values) {
+        Ok(()) => Ok(Some(values)),
+        Err(_) => Ok(None),
+    }
+}
+
+/// Prints each value.
+fn put_values(output: &mut String, values: &[u8]) -> Result<(), AllocError>
+    ensures { IfOk result (λ _. string_bytes output.new ≡ string_bytes output.old ++ flat_map decimal values.now) }
+{
+    for value in values {
+        write!(output, "{value}")?;
+    }
+    Ok(())
+}
