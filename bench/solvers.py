@@ -1,4 +1,4 @@
-"""What both benchmarks need: to build a program of ours, to run and time programs, and to print tables."""
+"""What the benchmarks need: to build a program of ours, to run and time programs, and to print tables."""
 
 import argparse
 import contextlib
@@ -8,14 +8,18 @@ import signal
 import subprocess
 import sys
 import time
+from dataclasses import dataclass
+from typing import Optional
 
 HERE = os.path.dirname(os.path.abspath(__file__))
 TOP = os.path.dirname(HERE)
 TIMES = 3
+# A run that takes more seconds than this is not repeated.
+LONG = 1
 
 
 def arguments(about, limit):
-    """A parser of the options that both benchmarks have, with so many seconds for each run if none are given."""
+    """A parser of the options that the benchmarks have, with so many seconds for each run if none are given."""
     parser = argparse.ArgumentParser(description=about)
     parser.add_argument("--limit", type=float, default=limit, help=f"seconds that each run has ({limit})")
     parser.add_argument("--family", default="", help="only the families whose names begin so")
@@ -82,6 +86,34 @@ def weighed(words, limit, stdin=None):
                     os.kill(int(child), signal.SIGKILL)
         text, errors = None, process.communicate()[1]
     return text, time.perf_counter() - start, int(errors.split()[-1])
+
+
+@dataclass
+class Run:
+    """What a program said of a problem (None where it did not finish), in which time and with how much memory."""
+
+    text: Optional[str]
+    seconds: float
+    kilobytes: int
+
+
+def best_of(words, limit, path=None):
+    """The quickest of the runs; a long one is not repeated. The first one is weighed."""
+
+    def started(run):
+        if path is None:
+            return run(words, limit)
+        with open(path, encoding="utf-8") as file:
+            return run(words, limit, file)
+
+    text, seconds, kilobytes = started(weighed)
+    for _ in range(TIMES - 1):
+        if text is None or seconds > LONG:
+            break
+        again, time = started(timed)
+        if again is not None and time < seconds:
+            text, seconds = again, time
+    return Run(text, seconds, kilobytes)
 
 
 def write(path, text):
