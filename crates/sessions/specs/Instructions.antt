@@ -1,7 +1,6 @@
 -- What a line of a session tells the job to do.
 use Rattle.std.specs.Prelude.{◌≡◌, ℕ, true, List, [], ◌∷◌, ℤ, Some, None, Option, Ok, Err, Result}
-use Rattle.terms.specs.declared.refusals.Refusal.TheVariants.{MalformedField}
-use Rattle.texts.specs.Lines.{Field, Said, job, hard as hard_line, soft as soft_line, rounds as rounds_line, query}
+use Rattle.texts.specs.Lines.{Field, Said, job, hard as hard_line, soft as soft_line, rounds as rounds_line, query, malformed_field}
 use Rattle.texts.specs.Numbers.{literal}
 use Rattle.texts.specs.Weights.{weight_numbers}
 use Rattle.texts.specs.declared.faults.LineFault.{LineFault}
@@ -14,10 +13,6 @@ pub data Instruction (W : Type 0) : Type 0 where
   calls : Call W → Instruction W
   rounds : ℕ → Instruction W
   shows : Instruction W
-
--- a field that is not written as asked
-abbrev pub malformed_field : ℕ → Field → LineFault
-malformed_field line field = record { line = line; field = field.0; refusal = MalformedField }
 
 -- ---- literals
 abbrev pub with_literal : ℕ → Field → Option ℤ → Result (List ℤ) LineFault → Result (List ℤ) LineFault

@@ -1,8 +1,8 @@
 -- What a line of a session says, or what is wrong with it.
 use Rattle.std.specs.Prelude.{ℕ, Bool, true, false, if◌then◌else◌, List, [], ◌∷◌, Some, None, Option, Ok, Err, Result, ◌==◌}
 use Rattle.terms.specs.declared.refusals.Refusal.{Refusal}
-use Rattle.terms.specs.declared.refusals.Refusal.TheVariants.{WrongLetter, WrongFieldCount, MalformedField}
-use Rattle.texts.specs.Faults.{whole_line}
+use Rattle.terms.specs.declared.refusals.Refusal.TheVariants.{WrongLetter, WrongFieldCount}
+use Rattle.texts.specs.Faults.{whole_line, malformed}
 use Rattle.texts.specs.Left.{left, as_numbered}
 use Rattle.texts.specs.Numbers.{number, five_digits}
 use Rattle.texts.specs.declared.faults.LineFault.{LineFault}
@@ -61,13 +61,13 @@ form field = None
 abbrev pub refused_whole : ℕ → Refusal → Result Said LineFault
 refused_whole line refusal = Err (whole_line line refusal)
 
--- at the first field that is not written as asked
-abbrev pub malformed_at : ℕ → Field → Result Said LineFault
-malformed_at line field = Err (record { line = line; field = field.0; refusal = MalformedField })
+-- a field that is not written as asked
+abbrev pub malformed_field : ℕ → Field → LineFault
+malformed_field line field = malformed (record { line = line; field = field.0 })
 
 abbrev pub job_by : ℕ → Field → Field → Option ℕ → Option WeightForm → Result Said LineFault
-job_by line n kind None f = malformed_at line n
-job_by line n kind (Some v) None = malformed_at line kind
+job_by line n kind None f = Err (malformed_field line n)
+job_by line n kind (Some v) None = Err (malformed_field line kind)
 job_by line n kind (Some v) (Some f) = Ok (job v f)
 
 abbrev pub job_said : ℕ → List Field → Result Said LineFault
@@ -79,7 +79,7 @@ soft_said line [] = refused_whole line WrongFieldCount
 soft_said line (weight ∷ literals) = Ok (soft weight literals)
 
 abbrev pub rounds_by : ℕ → Field → Option ℕ → Result Said LineFault
-rounds_by line count None = malformed_at line count
+rounds_by line count None = Err (malformed_field line count)
 rounds_by line count (Some k) = Ok (rounds k)
 
 abbrev pub rounds_said : ℕ → List Field → Result Said LineFault
