@@ -4,21 +4,20 @@ use Rattle.std.proofs.lemmas.Bool.Decides.{nat_tests}
 use Rattle.std.proofs.lemmas.List.Folds.{list_all-append}
 use Rattle.std.specs.List.{list_all}
 use Rattle.terms.specs.Masks.{subset, intersect}
-use Rattle.terms.proofs.MaskLaws.{subset_members, intersect_members}
+use Rattle.terms.proofs.MaskLaws.{subset_self, intersect_more}
 use Rattle.covers.specs.Meanings.{has_part, staying}
 
--- what meets a part meets the whole
-pub meets_whole : (set x y : ℕ) → subset x y ≡ true → intersect set x ≡ true → intersect set y ≡ true
-meets_whole set x y = grind (arith, nat_tests, subset_members x y, intersect_members set x, intersect_members set y)
-
 module _ (set core : ℕ) where
+  meets_whole : (x y : ℕ) → subset x y ≡ true → intersect set x ≡ true → intersect set y ≡ true
+  meets_whole x y = intersect_more set x set y (subset_self set)
+
   part_met : (cs : List ℕ) → has_part cs core ≡ true → list_all (intersect set) cs ≡ true → intersect set core ≡ true
   part_met [] p m = grind arith
-  part_met (x ∷ cs) p m = grind (arith, nat_tests, part_met cs, meets_whole set x core)
+  part_met (x ∷ cs) p m = grind (arith, nat_tests, part_met cs, meets_whole x core)
 
   others_met : (cs : List ℕ) → intersect set core ≡ true → list_all (intersect set) (staying core cs) ≡ list_all (intersect set) cs
   others_met [] m = refl
-  others_met (x ∷ cs) m = grind (arith, nat_tests, others_met cs, meets_whole set core x)
+  others_met (x ∷ cs) m = grind (arith, nat_tests, others_met cs, meets_whole core x)
 
   -- a set covers the cores after exactly when it covered those before and meets the new one
   pub covered_part : (cs : List ℕ) → has_part cs core ≡ true → list_all (intersect set) cs ≡ (list_all (intersect set) cs && intersect set core)

@@ -3,17 +3,14 @@ use Rattle.std.proofs.Common.{◌≡◌, ℕ, ◌-◌, ◌^◌, true, false, not
 use Rattle.std.proofs.lemmas.Bool.Decides.{nat_tests}
 use Rattle.std.specs.List.{list_all}
 use Rattle.terms.specs.Masks.{member, subset, intersect}
-use Rattle.terms.proofs.MaskLaws.{member_full, none_members, subset_members, intersect_members, below_members}
+use Rattle.terms.proofs.MaskLaws.{member_full, none_members, subset_members, subset_self, intersect_members, intersect_more, below_members}
 use Rattle.covers.specs.Meanings.{MakerMeaning, proper}
 use Rattle.covers.specs.Covers.{is_cover}
 
--- a set with more members meets what the smaller one meets
-more_meets : (x y core : ℕ) → subset x y ≡ true → intersect x core ≡ true → intersect y core ≡ true
-more_meets x y core = grind (arith, nat_tests, subset_members x y, intersect_members x core, intersect_members y core)
-
+-- a set with more members covers what the smaller one covers
 more_covers : (x y : ℕ) (cs : List ℕ) → subset x y ≡ true → list_all (intersect x) cs ≡ true → list_all (intersect y) cs ≡ true
 more_covers x y [] s h = refl
-more_covers x y (core ∷ cs) s h = grind (arith, nat_tests, more_covers x y cs, more_meets x y core)
+more_covers x y (core ∷ cs) s h = grind (arith, nat_tests, more_covers x y cs, intersect_more x core y core s (subset_self core))
 
 full_meets : (n core : ℕ) → proper n core ≡ true → intersect (2 ^ n - 1) core ≡ true
 full_meets n core h = grind (arith, nat_tests, none_members core, below_members n core, intersect_members (2 ^ n - 1) core, member_full n)

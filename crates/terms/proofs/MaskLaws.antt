@@ -62,6 +62,12 @@ subset_members x y = (
   (λ f. eq-eqb _ x (same_mask _ x (λ k. grind (arith, bit_laws, f k)))),
 )
 
+pub subset_self : (x : ℕ) → subset x x ≡ true
+subset_self x = grind (arith, nat_tests, subset_members x x)
+
+pub subset_trans : (x y z : ℕ) → subset x y ≡ true → subset y z ≡ true → subset x z ≡ true
+subset_trans x y z a b = grind (arith, nat_tests, a, b, subset_members x y, subset_members y z, subset_members x z)
+
 pub below_members : (n m : ℕ) → Decides (below n m) (Below n m)
 unfolding below
 below_members n m = grind (arith, bit_laws, greatest_member m, pow_mono, pow_pos)
@@ -69,6 +75,10 @@ below_members n m = grind (arith, bit_laws, greatest_member m, pow_mono, pow_pos
 pub intersect_members : (x y : ℕ) → Decides (intersect x y) (Intersect x y)
 unfolding intersect
 intersect_members x y = (λ e. grind (arith, bit_laws, greatest_member (bit_and x y)), λ w. grind (arith, bit_laws, bit_at_and x y w.0))
+
+-- sets that meet still do when they have more members
+pub intersect_more : (x y u v : ℕ) → subset x u ≡ true → subset y v ≡ true → intersect x y ≡ true → intersect u v ≡ true
+intersect_more x y u v a b = grind (arith, nat_tests, a, b, subset_members x u, subset_members y v, intersect_members x y, intersect_members u v)
 
 -- ---- how many
 -- a shift by n drops the members below n
