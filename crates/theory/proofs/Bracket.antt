@@ -1,5 +1,5 @@
 -- The bracket stands on every log: each call keeps what a log keeps, and an accepted round takes at least one from a measure.
-use Rattle.std.proofs.Common.{◌≡◌, ℕ, suc, ◌+◌, ◌-◌, ◌*◌, ◌^◌, ◌<◌, ◌≤◌, Bool, true, false, if◌then◌else◌, List, [], ◌∷◌, length, ℤ, Some, None, Option, refl, sym, ap, ap₂, ◌∙◌, subst, arith, pow-suc}
+use Rattle.std.proofs.Common.{◌≡◌, ℕ, suc, ◌+◌, ◌-◌, ◌*◌, ◌^◌, ◌<◌, ◌≤◌, Bool, true, false, if◌then◌else◌, List, [], ◌∷◌, length, ℤ, Some, None, Option, refl, sym, ap, ap₂, ◌∙◌, subst, arith, pow-suc, inr}
 use Rattle.std.proofs.lemmas.Bool.Decides.{nat_tests}
 use Rattle.std.proofs.lemmas.List.{length-map}
 use Rattle.std.specs.List.{zip}
@@ -29,7 +29,7 @@ use Rattle.theory.proofs.Charges.{same_is_equal, equal_is_same, higher_left, hig
 use Rattle.theory.proofs.FreeSets.{free_sets, free_at_most, some_free, fewer_free}
 use Rattle.theory.proofs.Found.{found_is_proper, refused_is_full, found_is_new, staying_at_most, part_of_none}
 use Rattle.theory.proofs.Sound.{Sound, opens, hard_keeps, soft_keeps, higher_keeps, model_keeps, core_keeps, void_keeps, model_is_allowed, still_admitted, as_many}
-use Rattle.theory.proofs.Statuses.{is_void, is_unasked, is_best, is_open, is_not_void, best_at, open_goes_on, unasked_goes_on}
+use Rattle.theory.proofs.Statuses.{is_void, is_unasked, is_best, is_open, is_not_void, void_at, best_at, open_goes_on, unasked_goes_on}
 
 -- ---- the measure
 abbrev measure_of : Status → Phase → ℕ → ℕ
@@ -87,10 +87,11 @@ module _ {W : Type 0} {K : Kind W} (laws : Laws K) (first : State K) where
   some_left hs xs s d = some_free s.maker.cores (length s.maker.weights) d.cores.proper
 
   -- ---- lines
-  clause_line : (log : Log K) (s t : State K) (c : Call W) (r : Option Refusal) → (c ≡ round → ⊥) → K.le s.floor t.floor ≡ true → LineHolds first log s (line c r t)
-  clause_line log s t c r n f = record {
+  clause_line : (log : Log K) (s t : State K) (c : Call W) (r : Option Refusal) → (c ≡ round → ⊥) → K.le s.floor t.floor ≡ true → t.void ≡ s.void → LineHolds first log s (line c r t)
+  clause_line log s t c r n f v = record {
     floor_never_falls = f;
     void_is_found = λ e. absurd (n e);
+    void_stays = λ e. void_at t (v ∙ is_void s e);
     end_is_final = λ e. absurd (n e);
     refused_only = λ _ e. absurd (n e);
   }
@@ -99,6 +100,7 @@ module _ {W : Type 0} {K : Kind W} (laws : Laws K) (first : State K) where
   accepted_line log s t f n v = record {
     floor_never_falls = f;
     void_is_found = λ _ _ none. v none;
+    void_stays = λ e. absurd (n (inr e));
     end_is_final = λ _ e. absurd (n e);
     refused_only = λ r _ e _. grind arith;
   }
@@ -107,14 +109,14 @@ module _ {W : Type 0} {K : Kind W} (laws : Laws K) (first : State K) where
   hard_next : (log : Log K) (s : State K) → Good log s → (c : List ℤ) (r : Option Refusal) → Next log s (hard c) r (unless_refused r (after_hard s c) s)
   hard_next log s g c None =
       let d = hard_keeps laws first (hards log) (softs log) s g.0 c in
-      ((d, all_left _ _ _ d), clause_line log s (after_hard s c) (hard c) None (λ e. grind arith) (le_self laws s.floor))
-  hard_next log s g c (Some r) = (g, clause_line log s s (hard c) (Some r) (λ e. grind arith) (le_self laws s.floor))
+      ((d, all_left _ _ _ d), clause_line log s (after_hard s c) (hard c) None (λ e. grind arith) (le_self laws s.floor) refl)
+  hard_next log s g c (Some r) = (g, clause_line log s s (hard c) (Some r) (λ e. grind arith) (le_self laws s.floor) refl)
 
   soft_next : (log : Log K) (s : State K) → Good log s → (w : W) (c : List ℤ) (r : Option Refusal) → Next log s (soft w c) r (unless_refused r (after_soft s w c) s)
   soft_next log s g w c None =
       let d = soft_keeps laws first (hards log) (softs log) s g.0 w c in
-      ((d, all_left _ _ _ d), clause_line log s (after_soft s w c) (soft w c) None (λ e. grind arith) (le_self laws s.floor))
-  soft_next log s g w c (Some r) = (g, clause_line log s s (soft w c) (Some r) (λ e. grind arith) (le_self laws s.floor))
+      ((d, all_left _ _ _ d), clause_line log s (after_soft s w c) (soft w c) None (λ e. grind arith) (le_self laws s.floor) refl)
+  soft_next log s g w c (Some r) = (g, clause_line log s s (soft w c) (Some r) (λ e. grind arith) (le_self laws s.floor) refl)
 
   -- ---- covers, and what is found outside them
   module _ (hs : List (List ℤ)) (xs : List (W × List ℤ)) (s : State K) (d : Sound first hs xs s) where
@@ -169,6 +171,7 @@ module _ {W : Type 0} {K : Kind W} (laws : Laws K) (first : State K) where
       record {
         floor_never_falls = le_self laws s.floor;
         void_is_found = λ _ e. grind arith;
+        void_stays = λ v. v;
         end_is_final = λ _ _. (refl, refl);
         refused_only = λ _ _ _ n. absurd (n e);
       },
@@ -227,6 +230,7 @@ module _ {W : Type 0} {K : Kind W} (laws : Laws K) (first : State K) where
           record {
             floor_never_falls = le_self laws s.floor;
             void_is_found = λ _ i. grind arith;
+            void_stays = λ v. v;
             end_is_final = λ _ i. absurd (open_goes_on s x.is_open i);
             refused_only = λ z _ i _. (
               grind (arith, full.0),

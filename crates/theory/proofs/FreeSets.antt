@@ -4,7 +4,7 @@ use Rattle.std.proofs.lemmas.Bool.Decides.{nat_tests}
 use Rattle.std.proofs.lemmas.List.Folds.{list_any-append}
 use Rattle.std.specs.List.{list_all}
 use Rattle.terms.specs.Masks.{subset, below}
-use Rattle.terms.proofs.MaskLaws.{subset_members, none_members}
+use Rattle.terms.proofs.MaskLaws.{subset_members, subset_self, subset_trans, none_members}
 use Rattle.covers.specs.Meanings.{has_part, staying, cores_with, proper}
 
 -- how many numbers below n pass a test
@@ -31,12 +31,6 @@ module _ (p q : ℕ → Bool) (implied : (k : ℕ) → p k ≡ true → q k ≡ 
   count_fewer (suc n) k l f t = grind (arith, nat_tests, count_fewer n k, count_no_more n, implied n)
 
 -- ---- what contains a kept core
-subset_trans : (x y z : ℕ) → subset x y ≡ true → subset y z ≡ true → subset x z ≡ true
-subset_trans x y z = grind (arith, nat_tests, subset_members x y, subset_members y z, subset_members x z)
-
-subset_self : (x : ℕ) → subset x x ≡ true
-subset_self x = grind (arith, nat_tests, subset_members x x)
-
 -- what contained a kept core contains one of those that stay, or the new one
 part_stays : (core set : ℕ) (cs : List ℕ) → has_part cs set ≡ true → (has_part (staying core cs) set || subset core set) ≡ true
 part_stays core set [] h = grind arith

@@ -1,7 +1,7 @@
 -- What every log keeps of a job's state, and that each move of a job keeps it.
-use Rattle.std.proofs.Common.{◌≡◌, ℕ, zero, suc, ◌<◌, ◌≤◌, Bool, true, false, not, ◌&&◌, if◌then◌else◌, List, [], ◌∷◌, ◌++◌, length, map, ℤ, Some, None, Option, All, refl, sym, ap, ap₂, ◌∙◌, subst, eqb, arith, length-append}
+use Rattle.std.proofs.Common.{◌≡◌, ℕ, zero, suc, ◌<◌, ◌≤◌, Bool, true, false, not, ◌&&◌, if◌then◌else◌, List, [], ◌∷◌, ◌++◌, length, map, ℤ, Some, None, Option, All, refl, sym, ap, ap₂, ◌∙◌, subst, arith, length-append}
 use Rattle.std.proofs.lemmas.Bool.Decides.{nat_tests}
-use Rattle.std.proofs.lemmas.List.{map-append, length-map, get_or_append_left}
+use Rattle.std.proofs.lemmas.List.{map-append, length-map, get_or_append_left, nil_from_length}
 use Rattle.std.proofs.lemmas.List.Elements.{All-append, All-filter}
 use Rattle.std.proofs.lemmas.List.Folds.{list_all-append}
 use Rattle.std.proofs.lemmas.List.Sums.{list_all-from_AllPass}
@@ -52,10 +52,6 @@ pub record Sound {W : Type 0} {K : Kind W} (first : State K) (hards : List (List
   pub void_only : s.void ≡ true → (a : List ℕ) → AllowedBy first.finder hards a → ⊥
 
 -- ---- single facts
-no_items : {A : Type 0} (xs : List A) → eqb (length xs) 0 ≡ true → xs ≡ []
-no_items [] e = refl
-no_items (x ∷ xs) e = grind (arith, nat_tests)
-
 unbroken_is : {A : Type 0} (c : List ℤ) (kept : Option (Plan A)) (plan : Plan A) → unbroken c kept ≡ Some plan → (kept ≡ Some plan) × (satisfied_by plan.values c ≡ true)
 unbroken_is c None plan e = grind arith
 unbroken_is {A} c (Some old) plan e = by_test (satisfied_by old.values c) refl e
@@ -110,9 +106,9 @@ module _ {W : Type 0} {K : Kind W} (laws : Laws K) (first : State K) where
   pub opens : JustOpened first → Sound first [] [] first
   opens o =
       let u = o.0 in
-      let fs = no_items first.finder.softs (grind (arith, u)) in
-      let ws = no_items first.maker.weights (grind (arith, u)) in
-      let cores = no_items first.maker.cores (grind (arith, u)) in
+      let fs = nil_from_length first.finder.softs (grind (arith, nat_tests, u)) in
+      let ws = nil_from_length first.maker.weights (grind (arith, nat_tests, u)) in
+      let cores = nil_from_length first.maker.cores (grind (arith, nat_tests, u)) in
       record {
         accepted = record {
           is_fresh = ap (λ s. s.fresh) o.1 ∙ o.0;

@@ -50,6 +50,7 @@ module _ {W : Type 0} {K : Kind W} where
   pub record LineHolds (first : State K) (log : Log K) (before : State K) (l : Line K) : Type 0 where
     pub floor_never_falls : K.le before.floor l.after.floor ≡ true
     pub void_is_found : l.call ≡ round → l.refusal ≡ None → NoneAllowed first log → status l.after ≡ Void
+    pub void_stays : status before ≡ Void → status l.after ≡ Void
     pub end_is_final : l.call ≡ round → Ended before → (l.refusal ≡ Some Finished) × (l.after ≡ before)
     pub refused_only : (r : Refusal) → l.call ≡ round → l.refusal ≡ Some r → (Ended before → ⊥)
         → (r ≡ NoCorePlace) × Crowded before × (l.after ≡ before)
