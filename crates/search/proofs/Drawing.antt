@@ -163,27 +163,28 @@ module _ (t : Table) (wish : ℕ) (ss : List Slot) (e : Entry) (r : Reason) (sou
       same_sign false false h = refl
 
 -- ---- what is left once the last literal is made true
-module _ (t : Table) (wish depth : ℕ) (ss ts : List Slot) (e : Entry) (r : Reason) (u : ℤ) (sound : Sound t wish ss) (belongs : Belongs t e) (last : standing ss e.clause ≡ Last u)
-    (drawn : ts ≡ set ss (place u) (Drawn (positive u) depth r)) where
-  unsaid : Unsaid ss u
-  unsaid = last_unsaid t wish ss e u belongs sound last
-
-  pub drawn_grown : Grown depth ss ts
-  drawn_grown = subst (Grown depth ss) (sym drawn) (grown_drawn depth ss (place u) (positive u) r (place_within (length ss) u unsaid.0) unsaid.1)
-
-  pub drawn_fewer : unset ts < unset ss
-  drawn_fewer = omega (arith, ap unset drawn, unset_set ss (place u) (Drawn (positive u) depth r) (place_within (length ss) u unsaid.0) unsaid.1 refl)
-
-  pub drawn_sound : wanted wish e.kind ≡ true → below 64 wish ≡ true → ReasonOf ss e.kind e.clause r → Sound t wish ts
-  drawn_sound w few of =
-      subst (Sound t wish) (sym drawn)
-      (sound_drawn t wish ss (place u) (positive u) depth r (place_within (length ss) u unsaid.0) unsaid.1 sound (backed_last t wish ss e r sound belongs w few of u depth last))
-
-  pub drawn_keeps : Keeps t wish u ss ts
-  drawn_keeps = quiet_kept t.n ss ts u (Drawn (positive u) depth r) unsaid sound.wide refl drawn wish
-
+pub record LastDrawn (t : Table) (wish depth : ℕ) (ss ts : List Slot) (e : Entry) (u : ℤ) : Type 0 where
+  pub grown : Grown depth ss ts
+  pub sound : Sound t wish ts
+  pub fewer : unset ts < unset ss
+  pub proper : bad_literal t.n u ≡ false
+  pub keeps : Keeps t wish u ss ts
   -- the clause itself has a true literal now
-  pub drawn_own : is_quiet wish ts e ≡ true
-  drawn_own =
-      quiet_made t.n ss ts u (Drawn (positive u) depth r) unsaid sound.wide refl drawn wish e
-      (stands_of_open ss e.clause u (last_standing (list_any (is_true ss) e.clause) (filter (is_open ss) e.clause) u last).1)
+  pub own : is_quiet wish ts e ≡ true
+
+pub last_drawn : (t : Table) (wish depth : ℕ) (ss ts : List Slot) (e : Entry) (r : Reason) (u : ℤ) → Sound t wish ss → Belongs t e → standing ss e.clause ≡ Last u
+    → ts ≡ set ss (place u) (Drawn (positive u) depth r) → wanted wish e.kind ≡ true → below 64 wish ≡ true → ReasonOf ss e.kind e.clause r → LastDrawn t wish depth ss ts e u
+last_drawn t wish depth ss ts e r u sound belongs last drawn w few of =
+    let value = Drawn (positive u) depth r in
+    let unsaid = last_unsaid t wish ss e u belongs sound last in
+    let within = place_within (length ss) u unsaid.0 in
+    let alone = (last_standing (list_any (is_true ss) e.clause) (filter (is_open ss) e.clause) u last).1 in
+    record {
+      grown = subst (Grown depth ss) (sym drawn) (grown_drawn depth ss (place u) (positive u) r within unsaid.1);
+      sound = subst (Sound t wish) (sym drawn)
+          (sound_drawn t wish ss (place u) (positive u) depth r within unsaid.1 sound (backed_last t wish ss e r sound belongs w few of u depth last));
+      fewer = omega (arith, ap unset drawn, unset_set ss (place u) value within unsaid.1 refl);
+      proper = subst (λ n. bad_literal n u ≡ false) sound.wide unsaid.0;
+      keeps = quiet_kept t.n ss ts u value unsaid sound.wide refl drawn wish;
+      own = quiet_made t.n ss ts u value unsaid sound.wide refl drawn wish e (stands_of_open ss e.clause u alone);
+    }

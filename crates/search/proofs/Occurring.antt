@@ -15,7 +15,7 @@ use Rattle.tables.specs.Entries.{Entry, IsProper, literal_count}
 use Rattle.tables.specs.Table.{Table}
 use Rattle.tables.specs.Trying.{wanted}
 use Rattle.search.specs.Slots.{row}
-use Rattle.search.specs.Occurring.{chain, has_number, numbers_with, occurs, stands_in}
+use Rattle.search.specs.Occurring.{AddsClause, chain, has_number, numbers_with, occurs, stands_in}
 use Rattle.search.specs.declared.occurrences.Node.{Node}
 use Rattle.search.specs.declared.occurrences.Occurrences.{Occurrences}
 use Rattle.search.proofs.Literals.{place_within}
@@ -183,8 +183,7 @@ coming_here t set number o e rest es so is =
 
 pub coming_more : (t : Table) (set number next : ℕ) (o p : Occurrences) (e : Entry) (rest es : List Entry) → t.n ≤ 256 → Coming t set number o es → es ≡ e ∷ rest → next ≡ number + 1
     → p.used ≤ o.used + length e.clause
-    → ((l : ℤ) → bad_literal 256 l ≡ false → (k : ℕ) → has_number (numbers_with p l) k ≡ (has_number (numbers_with o l) k || (eqb number k && (wanted set e.kind && stands_in l e))))
-    → Coming t set next p rest
+    → AddsClause o p set number e → Coming t set next p rest
 coming_more t set number next o p e rest es narrow coming first is used added = let so = subst (Coming t set number o) first coming in record {
   proper = All-rest (IsProper 256) e rest (e ∷ rest) refl so.proper;
   few = omega (arith, so.few);

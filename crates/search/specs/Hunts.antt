@@ -1,6 +1,7 @@
 -- What `Searching` says, for the clauses of a hunt and the soft ones that it is asked for.
-use Rattle.std.specs.Prelude.{ℕ, Bool, List, Option, Result, ℤ}
-use Rattle.search.specs.Searching.{Drawing, Excludes, Keeps, Next, Quiet, Searched, Sound}
+use Rattle.std.specs.Prelude.{◌≡◌, ℕ, ◌+◌, ◌^◌, ◌<◌, Bool, List, length, Option, Result, ℤ}
+use Rattle.search.specs.Slots.{unset}
+use Rattle.search.specs.Searching.{Drawing, Excludes, Keeps, Next, Quiet, Searched, Sound, Within}
 use Rattle.search.specs.declared.hunt.Hunt.{Hunt}
 use Rattle.search.specs.declared.reasons.Reason.{Reason}
 use Rattle.search.specs.declared.slots.Slot.{Slot}
@@ -25,3 +26,12 @@ NextIn h = Next h.tables.now h.set
 
 abbrev pub SearchedIn : Hunt → List (Option Bool) → List ℕ → Result Unit Reason → List ℕ → Type 0
 SearchedIn h = Searched h.tables.now h.set
+
+-- what is so before a literal is tried, or what follows from one is drawn
+pub record Ready (h : Hunt) (waits : ℕ → Bool) (depth : ℕ) (ss : List Slot) (buffer : List ℕ) : Type 0 where
+  pub sound : SoundIn h ss
+  pub quiet : QuietIn h waits ss
+  pub shallow : Within depth ss
+  -- no depth is too great to be noted
+  pub room : depth + unset ss < 2 ^ 16
+  pub long : length buffer ≡ h.tables.now.n

@@ -1,5 +1,5 @@
 -- In which clauses of the table a literal stands, and how that is told.
-use Rattle.std.specs.Prelude.{◌≡◌, ℕ, zero, suc, Bool, false, ◌&&◌, if◌then◌else◌, List, [], ◌∷◌, length, reverse, take, ℤ, ◌==◌, slice_index}
+use Rattle.std.specs.Prelude.{◌≡◌, ℕ, zero, suc, Bool, false, ◌&&◌, ◌||◌, if◌then◌else◌, List, [], ◌∷◌, length, reverse, take, ℤ, ◌==◌, slice_index}
 use Rattle.std.specs.List.{list_any}
 use Rattle.std.specs.Ordering.{int_eq}
 use Rattle.terms.specs.Clauses.{bad_literal}
@@ -37,3 +37,12 @@ has_number js k = list_any (λ j. j == k) js
 -- the list of each literal has the numbers of the wanted clauses in which it stands, and no others
 abbrev pub Indexed : Table → ℕ → Occurrences → Type 0
 Indexed t set o = (l : ℤ) → bad_literal t.n l ≡ false → (k : ℕ) → has_number (numbers_with o l) k ≡ occurs set l t.entries k
+
+-- the number has come in front of the literal's chain, and the other chains are as they were
+abbrev pub PushesNumber : Occurrences → Occurrences → ℤ → ℕ → Type 0
+PushesNumber old new x number = (l : ℤ) → bad_literal 256 l ≡ false → numbers_with new l ≡ (if int_eq x l then number ∷ numbers_with old l else numbers_with old l)
+
+-- the clause with this number is told as well, where it is wanted for the set
+abbrev pub AddsClause : Occurrences → Occurrences → ℕ → ℕ → Entry → Type 0
+AddsClause old new set number e =
+    (l : ℤ) → bad_literal 256 l ≡ false → (k : ℕ) → has_number (numbers_with new l) k ≡ (has_number (numbers_with old l) k || (number == k && (wanted set e.kind && stands_in l e)))

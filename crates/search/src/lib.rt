@@ -4,6 +4,7 @@
 mod finder;
 mod hunt;
 mod occurrences;
+mod order;
 mod propagation;
 mod reasons;
 mod scores;

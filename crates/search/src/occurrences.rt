@@ -1,10 +1,8 @@
 //! In which clauses a literal stands.
-ghost use Rattle.std.specs.Prelude.{◌≡◌, ℕ, ℤ, ◌+◌, ◌<◌, ◌≤◌, ◌==◌, ◌||◌, ◌&&◌, if◌then◌else◌, false, List, [], ◌∷◌, length, All};
+ghost use Rattle.std.specs.Prelude.{◌≡◌, ℤ, ◌+◌, ◌<◌, ◌≤◌, false, [], length, All};
 ghost use Rattle.std.specs.Iterator.{YieldsFirst, item_count};
-ghost use Rattle.std.specs.Ordering.{int_eq};
 ghost use Rattle.terms.specs.Clauses.{bad_literal};
 ghost use Rattle.tables.specs.Entries.{IsProper, as_entry};
-ghost use Rattle.tables.specs.Trying.{wanted};
 ghost use Rattle.search.specs.Slots.{row};
 
 use crate::slots::place_of;
@@ -32,7 +30,7 @@ pub(crate) struct Occurrences {
 }
 
 impl Occurrences {
-    ghost use Rattle.search.specs.Occurring.{Indexed, has_number, numbers_with, stands_in};
+    ghost use Rattle.search.specs.Occurring.{AddsClause, Indexed, PushesNumber, numbers_with};
 
     /// The occurrences in the clauses that a model for the set has to satisfy.
     #[tactic(auto, using(crate::proofs::Occurring::coming_here, crate::proofs::Occurring::all_told))]
@@ -66,7 +64,7 @@ impl Occurrences {
         requires proper { IsProper 256 (as_entry clause) }
         requires room { self.old.used + length clause.literals.now ≤ 32768 }
         ensures used { self.new.used ≤ self.old.used + length clause.entry.literals.now }
-        ensures added { (l : ℤ) → bad_literal 256 l ≡ false → (k : ℕ) → has_number (numbers_with self.new l) k ≡ (has_number (numbers_with self.old l) k || (number == k && (wanted set clause.entry.kind && stands_in l (as_entry clause.entry)))) }
+        ensures added { AddsClause self.old self.new set number (as_entry clause.entry) }
     {
         if !clause.kind.is_wanted(set) {
             return;
@@ -82,7 +80,7 @@ impl Occurrences {
         requires proper { bad_literal 256 literal ≡ false }
         requires room { self.old.used < 32768 }
         ensures used { self.new.used ≡ self.old.used + 1 }
-        ensures pushed { (l : ℤ) → bad_literal 256 l ≡ false → numbers_with self.new l ≡ (if int_eq literal l then number ∷ numbers_with self.old l else numbers_with self.old l) }
+        ensures pushed { PushesNumber self.old self.new literal number }
     {
         let row = row_of(literal);
         let next = self.heads[row];

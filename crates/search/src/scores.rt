@@ -10,11 +10,15 @@ use crate::slots::{Slot, place_of};
 #[derive(Clone, Copy, Debug)]
 pub(crate) struct Scores {
     rows: [u32; 512],
+    clauses: u16,
 }
 
 impl Scores {
     pub(crate) fn new() -> Scores {
-        Scores { rows: [0; 512] }
+        Scores {
+            rows: [0; 512],
+            clauses: 0,
+        }
     }
 
     /// Counts an open clause for each of its literals.
@@ -27,10 +31,16 @@ impl Scores {
             .filter(|literal| slots[place_of(**literal)].is_unset())
             .count();
         let weight = weight(left, clause.len());
+        self.clauses = self.clauses.saturating_add(1);
         for &literal in clause {
             let row = row_of(literal);
             self.rows[row] = self.rows[row].saturating_add(weight);
         }
+    }
+
+    /// Whether so many clauses were counted that long ones more would hardly change the choice.
+    pub(crate) fn are_enough(&self) -> bool {
+        self.clauses >= 64
     }
 
     /// The literal to try, of a variable without a value. The fallback shows that there is one.

@@ -1,18 +1,26 @@
 //! Trying one truth of a variable and then the other.
-ghost use Rattle.std.specs.Prelude.{◌≡◌, ◌+◌, ◌^◌, ◌<◌, false, not, Some, length, replicate, slice_set};
+ghost use Rattle.std.specs.Prelude.{◌≡◌, ◌≤◌, false, not, IfSome, Some, option_map, length, replicate, slice_set};
 ghost use Rattle.terms.specs.Clauses.{bad_literal};
 ghost use Rattle.tables.specs.Entries.{IsProper, as_entry};
 ghost use Rattle.search.specs.Occurring.{occurs};
-ghost use Rattle.search.specs.Slots.{negated, place, positive, unset};
-ghost use Rattle.search.specs.Hunts.{NextIn, QuietIn, SearchedIn, SoundIn};
-ghost use Rattle.search.specs.Searching.{Grown, OpenIn, Unsaid, Within, choices, none_waits};
+ghost use Rattle.search.specs.Slots.{negated, place, positive};
+ghost use Rattle.search.specs.Hunts.{NextIn, QuietIn, Ready, SearchedIn, SoundIn};
+ghost use Rattle.search.specs.Searching.{Grown, OpenIn, Unsaid, choices, none_waits};
 
 use crate::hunt::Hunt;
+use crate::order::{is_short, short_first};
 use crate::reasons::Reason;
 use crate::scores::Scores;
 use crate::slots::{Slot, Trial, choose, opposite, place_of, write_model};
 use crate::standings::{Standing, standing_of};
 use tables::Clause;
+
+/// A literal to try, and how many clauses at the front of the order are met.
+#[derive(Clone, Copy, Debug)]
+struct Pick {
+    literal: i32,
+    met: usize,
+}
 
 impl Hunt<'_> {
     /// Searches from slots without a value.
@@ -22,22 +30,26 @@ impl Hunt<'_> {
         ensures { SearchedIn self.now (choices slots.old) buffer.old result buffer.new }
     {
         self.begin(slots)?;
-        self.try_next(slots, buffer, 0)
+        let mut order = [0; 32768];
+        let count = short_first(self.tables, &mut order);
+        self.try_next(slots, buffer, 0, &mut order[..count])
     }
 
     /// Tries the next variable, where there is one to try; else the values are a model.
     #[cycle(trying)]
-    fn try_next(&self, slots: &mut [Slot], buffer: &mut [u8], depth: u16) -> Result<(), Reason>
-        requires sound { SoundIn self.now slots.old }
-        requires quiet { QuietIn self.now none_waits slots.old }
-        requires shallow { Within depth slots.old }
-        requires room { depth + unset slots.old < 2 ^ 16 }
-        requires long { length buffer.old ≡ self.now.tables.now.n }
+    fn try_next(
+        &self,
+        slots: &mut [Slot],
+        buffer: &mut [u8],
+        depth: u16,
+        order: &mut [u16],
+    ) -> Result<(), Reason>
+        requires { Ready self.now none_waits depth slots.old buffer.old }
         ensures same { slots.new ≡ slots.old }
         ensures answer { SearchedIn self.now (choices slots.old) buffer.old result buffer.new }
     {
-        match self.next_literal(slots) {
-            Some(literal) => self.split(literal, slots, buffer, depth),
+        match self.next_literal(slots, order) {
+            Some(next) => self.split(next.literal, slots, buffer, depth, &mut order[next.met..]),
             None => {
                 write_model(slots, buffer);
                 Ok(())
@@ -53,24 +65,21 @@ impl Hunt<'_> {
         slots: &mut [Slot],
         buffer: &mut [u8],
         depth: u16,
+        order: &mut [u16],
     ) -> Result<(), Reason>
-        requires sound { SoundIn self.now slots.old }
-        requires quiet { QuietIn self.now none_waits slots.old }
-        requires shallow { Within depth slots.old }
-        requires room { depth + unset slots.old < 2 ^ 16 }
-        requires long { length buffer.old ≡ self.now.tables.now.n }
+        requires ready { Ready self.now none_waits depth slots.old buffer.old }
         requires unsaid { Unsaid slots.old literal }
         ensures same { slots.new ≡ slots.old }
         ensures answer { SearchedIn self.now (choices slots.old) buffer.old result buffer.new }
     {
         let place = place_of(literal);
-        let Err(first) = self.try_literal(literal, slots, buffer, depth) else {
+        let Err(first) = self.try_literal(literal, slots, buffer, depth, order) else {
             return Ok(());
         };
         if !first.choices.has(place) {
             return Err(first);
         }
-        let Err(second) = self.try_opposite(literal, slots, buffer, depth) else {
+        let Err(second) = self.try_opposite(literal, slots, buffer, depth, order) else {
             return Ok(());
         };
         if !second.choices.has(place) {
@@ -88,17 +97,14 @@ impl Hunt<'_> {
         slots: &mut [Slot],
         buffer: &mut [u8],
         depth: u16,
+        order: &mut [u16],
     ) -> Result<(), Reason>
-        requires sound { SoundIn self.now slots.old }
-        requires quiet { QuietIn self.now none_waits slots.old }
-        requires shallow { Within depth slots.old }
-        requires room { depth + unset slots.old < 2 ^ 16 }
-        requires long { length buffer.old ≡ self.now.tables.now.n }
+        requires ready { Ready self.now none_waits depth slots.old buffer.old }
         requires unsaid { Unsaid slots.old literal }
         ensures same { slots.new ≡ slots.old }
         ensures answer { SearchedIn self.now (slice_set (choices slots.old) (place literal) (Some (not (positive literal)))) buffer.old result buffer.new }
     {
-        self.try_literal(opposite(literal), slots, buffer, depth)
+        self.try_literal(opposite(literal), slots, buffer, depth, order)
     }
 
     /// Searches with the literal true, and unsets all that this sets.
@@ -109,12 +115,9 @@ impl Hunt<'_> {
         slots: &mut [Slot],
         buffer: &mut [u8],
         depth: u16,
+        order: &mut [u16],
     ) -> Result<(), Reason>
-        requires sound { SoundIn self.now slots.old }
-        requires quiet { QuietIn self.now none_waits slots.old }
-        requires shallow { Within depth slots.old }
-        requires room { depth + unset slots.old < 2 ^ 16 }
-        requires long { length buffer.old ≡ self.now.tables.now.n }
+        requires ready { Ready self.now none_waits depth slots.old buffer.old }
         requires unsaid { Unsaid slots.old literal }
         ensures same { slots.new ≡ slots.old }
         ensures answer { SearchedIn self.now (slice_set (choices slots.old) (place literal) (Some (positive literal))) buffer.old result buffer.new }
@@ -122,7 +125,7 @@ impl Hunt<'_> {
         let deeper = depth + 1;
         let trial = Trial { slots, depth };
         choose(trial.slots, literal, deeper);
-        self.propagate(literal, trial.slots, buffer, deeper)
+        self.propagate(literal, trial.slots, buffer, deeper, order)
     }
 
     /// Draws what follows from the literal, which was just chosen, and then tries the next variable.
@@ -133,36 +136,72 @@ impl Hunt<'_> {
         slots: &mut [Slot],
         buffer: &mut [u8],
         depth: u16,
+        order: &mut [u16],
     ) -> Result<(), Reason>
         requires proper { bad_literal self.now.tables.now.n literal ≡ false }
-        requires sound { SoundIn self.now slots.old }
-        requires quiet { QuietIn self.now (occurs self.now.set (negated literal) self.now.tables.now.entries) slots.old }
-        requires shallow { Within depth slots.old }
-        requires room { depth + unset slots.old < 2 ^ 16 }
-        requires long { length buffer.old ≡ self.now.tables.now.n }
+        requires ready { Ready self.now (occurs self.now.set (negated literal) self.now.tables.now.entries) depth slots.old buffer.old }
         ensures grown { Grown depth slots.old slots.new }
         ensures answer { SearchedIn self.now (choices slots.old) buffer.old result buffer.new }
     {
         self.follow(literal, slots, depth)?;
-        self.try_next(slots, buffer, depth)
+        self.try_next(slots, buffer, depth, order)
     }
 
-    /// The literal to try: none, where the values are a model.
-    fn next_literal(&self, slots: &[Slot]) -> Option<i32>
+    /// What to try next: nothing, where the values are a model.
+    fn next_literal(&self, slots: &[Slot], order: &mut [u16]) -> Option<Pick>
+        requires sound { SoundIn self.now slots.now }
+        requires quiet { QuietIn self.now none_waits slots.now }
+        ensures literal { NextIn self.now slots.now (option_map (λ n. n.literal) result) }
+        ensures met { IfSome result (λ n. n.met ≤ length order.new) }
+    {
+        if let Some(pick) = self.best_literal(slots, order) {
+            return Some(pick);
+        }
+        let literal = self.any_literal(slots)?;
+        Some(Pick { literal, met: 0 })
+    }
+
+    /// What does most for the open clauses of the order, where one of them is open. Clauses that are met come to its front.
+    #[tactic(auto, using(crate::proofs::Belonging::listed_belongs))]
+    fn best_literal(&self, slots: &[Slot], order: &mut [u16]) -> Option<Pick>
+        requires wide { length slots.now ≡ self.now.tables.now.n }
+        ensures literal { IfSome result (λ n. Unsaid slots.now n.literal) }
+        ensures met { IfSome result (λ n. n.met ≤ length order.new) }
+    {
+        let mut scores = Scores::new();
+        let mut open = None;
+        let mut met = 0;
+        for place in 0..order.len() {
+            let Some(clause) = self.tables.clause(usize::from(order[place])) else {
+                continue;
+            };
+            let Some(literal) = self.open_literal(clause, slots) else {
+                order.swap(met, place);
+                met += 1;
+                continue;
+            };
+            open = Some(literal);
+            scores.add(clause.literals, slots);
+            if scores.are_enough() && !is_short(clause) {
+                break;
+            }
+        }
+        let literal = scores.best(slots, open?);
+        Some(Pick { literal, met })
+    }
+
+    /// A literal without a value, of any clause that is wanted and has no true one.
+    fn any_literal(&self, slots: &[Slot]) -> Option<i32>
         requires sound { SoundIn self.now slots.now }
         requires quiet { QuietIn self.now none_waits slots.now }
         ensures { NextIn self.now slots.now result }
     {
-        let mut scores = Scores::new();
-        let mut next = None;
         for clause in self.tables.clauses() {
             if let Some(literal) = self.open_literal(clause, slots) {
-                scores.add(clause.literals, slots);
-                next = Some(literal);
+                return Some(literal);
             }
         }
-        let fallback = next?;
-        Some(scores.best(slots, fallback))
+        None
     }
 
     /// A literal without a value, of a clause that is wanted and has no true one.

@@ -10,7 +10,7 @@ use Rattle.search.proofs.Trying.{unsaid_room, unsaid_place, chosen_sound, chosen
 use Rattle.search.proofs.hunt.Hunt.+trying.Goals as goal
 
 pub try_literal-overflow_add-deeper : goal.try_literal-overflow_add-deeper
-try_literal-overflow_add-deeper t c = let room = unsaid_room c.args.slots.now c.args.literal c.args.depth c.requires.unsaid c.requires.room in omega arith
+try_literal-overflow_add-deeper t c = let room = unsaid_room c.args.slots.now c.args.literal c.args.depth c.requires.unsaid c.requires.ready.room in omega arith
 
 pub try_literal-propagate-requires : goal.try_literal-propagate-requires
 try_literal-propagate-requires t c =
@@ -19,28 +19,25 @@ try_literal-propagate-requires t c =
     let chosen = simp (to_z-of_z, c.ranges.literal) at c.choose.ensures in
     let same = to_z-of_z w32 c.args.literal c.ranges.literal in
     let fewer = chosen_fewer table set c.args.depth c.args.slots.now c.choose.new.slots c.args.literal c.requires.unsaid chosen in
-    let proper = subst (λ n. bad_literal n c.args.literal ≡ false) c.requires.sound.wide c.requires.unsaid.0 in
-    let quiet = chosen_quiet table set c.args.depth c.args.slots.now c.choose.new.slots c.args.literal c.requires.unsaid chosen c.args.self.now.proper c.requires.sound.wide c.requires.quiet in (
+    let proper = subst (λ n. bad_literal n c.args.literal ≡ false) c.requires.ready.sound.wide c.requires.unsaid.0 in
+    let quiet = chosen_quiet table set c.args.depth c.args.slots.now c.choose.new.slots c.args.literal c.requires.unsaid chosen c.args.self.now.proper c.requires.ready.sound.wide c.requires.ready.quiet in (
       omega (arith, c.decreases, fewer),
       (
         subst (λ l. bad_literal table.n l ≡ false) (sym same) proper,
-        (
-          chosen_sound table set c.args.depth c.args.slots.now c.choose.new.slots c.args.literal c.requires.unsaid chosen c.requires.sound,
-          (
-            subst (λ l. Quiet table set (occurs set (negated l) table.entries) c.choose.new.slots) (sym same) quiet,
-            (
-              chosen_within table set c.args.depth c.args.slots.now c.choose.new.slots c.args.literal c.requires.unsaid chosen c.requires.shallow,
-              (omega (arith, fewer, c.requires.room), c.requires.long),
-            ),
-          ),
-        ),
+        record {
+          sound = chosen_sound table set c.args.depth c.args.slots.now c.choose.new.slots c.args.literal c.requires.unsaid chosen c.requires.ready.sound;
+          quiet = subst (λ l. Quiet table set (occurs set (negated l) table.entries) c.choose.new.slots) (sym same) quiet;
+          shallow = chosen_within table set c.args.depth c.args.slots.now c.choose.new.slots c.args.literal c.requires.unsaid chosen c.requires.ready.shallow;
+          room = omega (arith, fewer, c.requires.ready.room);
+          long = c.requires.ready.long;
+        },
       ),
     )
 
 pub try_literal-returns-clause-same : goal.try_literal-returns-clause-same
 try_literal-returns-clause-same t c =
     all_restored c.args.self.now.tables.now c.args.self.now.set c.args.depth c.args.slots.now c.choose.new.slots c.args.literal c.requires.unsaid
-    (simp (to_z-of_z, c.ranges.literal) at c.choose.ensures) c.propagate.new.slots c.drop-trial.new.self.0 c.requires.shallow c.propagate.ensures.grown c.drop-trial.ensures
+    (simp (to_z-of_z, c.ranges.literal) at c.choose.ensures) c.propagate.new.slots c.drop-trial.new.self.0 c.requires.ready.shallow c.propagate.ensures.grown c.drop-trial.ensures
 
 pub try_literal-returns-clause-answer : goal.try_literal-returns-clause-answer
 try_literal-returns-clause-answer t c =
@@ -52,16 +49,13 @@ pub propagate-try_next-requires : goal.propagate-try_next-requires
 propagate-try_next-requires t c =
     let quiet = simp (to_z-of_z, c.ranges.literal) at c.in_ok-follow.ensures.drawing in (
       omega (arith, c.decreases, c.follow.ensures.grown.fewer),
-      (
-        c.follow.ensures.sound,
-        (
-          quiet none_waits c.requires.quiet,
-          (
-            c.follow.ensures.grown.shallow c.requires.shallow,
-            (omega (arith, c.follow.ensures.grown.fewer, c.requires.room), c.requires.long),
-          ),
-        ),
-      ),
+      record {
+        sound = c.follow.ensures.sound;
+        quiet = quiet none_waits c.requires.ready.quiet;
+        shallow = c.follow.ensures.grown.shallow c.requires.ready.shallow;
+        room = omega (arith, c.follow.ensures.grown.fewer, c.requires.ready.room);
+        long = c.requires.ready.long;
+      },
     )
 
 pub split-returns-then-not-has-clause-answer : goal.split-returns-then-not-has-clause-answer

@@ -5,12 +5,11 @@ use Rattle.search.specs.Searching.{Within, none_waits}
 use Rattle.search.proofs.Beginning.{begun_within, begun_unset}
 use Rattle.search.proofs.hunt.Hunt.run.Goals as goal
 
-pub try_next-requires-clause-quiet : goal.try_next-requires-clause-quiet
-try_next-requires-clause-quiet c = c.in_ok-begin.ensures.drawing none_waits (λ k e at never. absurd (both_ways true never refl))
-
-pub try_next-requires-clause-shallow : goal.try_next-requires-clause-shallow
-try_next-requires-clause-shallow c = c.begin.ensures.grown.shallow (subst (Within 0) (sym c.requires.unset) (begun_within c.args.self.now.tables.now.n))
-
-pub try_next-requires-clause-room : goal.try_next-requires-clause-room
-try_next-requires-clause-room c =
-    omega (arith, c.begin.ensures.grown.fewer, ap unset c.requires.unset, begun_unset c.args.self.now.tables.now.n, c.args.self.now.few)
+pub try_next-requires : goal.try_next-requires
+try_next-requires c = record {
+  sound = c.begin.ensures.sound;
+  quiet = c.in_ok-begin.ensures.drawing none_waits (λ k e at never. absurd (both_ways true never refl));
+  shallow = c.begin.ensures.grown.shallow (subst (Within 0) (sym c.requires.unset) (begun_within c.args.self.now.tables.now.n));
+  room = omega (arith, c.begin.ensures.grown.fewer, ap unset c.requires.unset, begun_unset c.args.self.now.tables.now.n, c.args.self.now.few);
+  long = c.requires.long;
+}

@@ -1,11 +1,11 @@
 use Rattle.std.proofs.Common.{All}
 use Rattle.tables.specs.Entries.{IsProper}
-use Rattle.search.proofs.Next.{AllQuiet, Found}
-use Rattle.search.proofs.hunt.Hunt.next_literal.Given as goal
+use Rattle.search.proofs.Next.{AllQuiet, MetBefore}
+use Rattle.search.proofs.hunt.Hunt.any_literal.Given as goal
 
--- what is known of the clauses to come, and what was found before them
+-- what is known of the clauses to come, and that those before them are met
 abbrev pub invariant-loop-clause : goal.invariant-loop-clause
 invariant-loop-clause l =
     All (IsProper l.self.tables.now.n) l.clause-iterator
     × AllQuiet l.self.set l.slots l.clause-iterator
-    × Found l.self.tables.now l.self.set l.slots l.clause-iterator l.next
+    × MetBefore l.self.tables.now l.self.set l.slots l.clause-iterator
