@@ -2,9 +2,10 @@
 ghost use Rattle.std.specs.Prelude.{◌≡◌, [], length};
 
 use crate::disagreements::Disagreement;
+use crate::inputs::Kind;
 use finders::Answer;
 use std::alloc::{AllocError, Global};
-use terms::{SoftSet, is_binary, satisfies};
+use terms::{Refusal, SoftSet, is_binary, satisfies};
 
 /// What each byte of a buffer is before a question.
 pub(crate) const UNTOUCHED: u8 = 7;
@@ -42,12 +43,12 @@ impl<'a> Accepted<'a> {
         self.softs.len()
     }
 
-    pub(crate) fn add_hard(&mut self, clause: &'a [i32]) -> Result<(), AllocError> {
-        Ok(self.hards.push(clause)?)
-    }
-
-    pub(crate) fn add_soft(&mut self, clause: &'a [i32]) -> Result<(), AllocError> {
-        Ok(self.softs.push(clause)?)
+    pub(crate) fn add(&mut self, kind: Kind, clause: &'a [i32]) -> Result<(), AllocError> {
+        match kind {
+            Kind::Hard => self.hards.push(clause)?,
+            Kind::Soft => self.softs.push(clause)?,
+        }
+        Ok(())
     }
 
     /// The soft clauses that the assignment breaks.
@@ -69,8 +70,20 @@ impl<'a> Accepted<'a> {
             && !self.broken_by(assignment).intersects(set)
     }
 
-    /// Checks an answer to the question for the set, with what is in the buffer after it.
+    /// Checks what came of the question for the set, with what is in the buffer after it.
     pub(crate) fn check(
+        &self,
+        set: SoftSet,
+        outcome: Result<Answer, Refusal>,
+        buffer: &[u8],
+    ) -> Result<(), Disagreement> {
+        match outcome {
+            Ok(answer) => self.check_answer(set, answer, buffer),
+            Err(_) => check_untouched(buffer),
+        }
+    }
+
+    fn check_answer(
         &self,
         set: SoftSet,
         answer: Answer,
@@ -103,7 +116,7 @@ fn check_core(set: SoftSet, core: SoftSet, buffer: &[u8]) -> Result<(), Disagree
 }
 
 /// Bytes that no answer may write.
-pub(crate) fn check_untouched(bytes: &[u8]) -> Result<(), Disagreement> {
+fn check_untouched(bytes: &[u8]) -> Result<(), Disagreement> {
     if bytes.iter().any(|byte| *byte != UNTOUCHED) {
         return Err(Disagreement::Written);
     }

@@ -1,11 +1,14 @@
 //! Makes the same calls on two finders and compares what they answer.
-use crate::accepted::{Accepted, UNTOUCHED, check_untouched};
+use crate::accepted::{Accepted, UNTOUCHED};
 use crate::disagreements::{Disagreement, Ending};
-use crate::inputs::Call;
+use crate::inputs::{Call, Kind};
 use crate::replies::{Reply, Tally, count};
 use finders::{Answer, Finder};
 use std::alloc::{AllocError, Global};
 use terms::{Refusal, SoftSet};
+
+#[cfg(test)]
+mod tests;
 
 /// A call, by its place among the calls, and what it showed.
 #[derive(Clone, Copy, PartialEq, Eq, Debug)]
@@ -58,8 +61,7 @@ impl<'a, F: Finder, G: Finder> Comparison<'a, F, G> {
     /// Makes the call on both finders.
     fn make(&mut self, call: &'a Call) -> Result<Reply, Ending> {
         let reply = match call {
-            Call::Hard(clause) => self.add_hard(clause)?,
-            Call::Soft(clause) => self.add_soft(clause)?,
+            Call::Add(kind, clause) => self.add(*kind, clause)?,
             Call::Ask { set, bytes } => self.ask(*set, *bytes)?,
             Call::Broken(assignment) => self.compare_broken(assignment)?,
         };
@@ -67,34 +69,17 @@ impl<'a, F: Finder, G: Finder> Comparison<'a, F, G> {
         Ok(reply)
     }
 
-    fn add_hard(&mut self, clause: &'a [i32]) -> Result<Reply, Ending> {
-        let told = same(
-            self.reference.hard_refusal(clause),
-            self.tested.hard_refusal(clause),
-        )?;
-        let refusal = same(
-            self.reference.add_hard(clause).err(),
-            self.tested.add_hard(clause).err(),
-        )?;
-        if refusal.is_none() {
-            self.accepted.add_hard(clause)?;
-        }
-        Ok(reply_to_clause(told, refusal)?)
-    }
-
-    fn add_soft(&mut self, clause: &'a [i32]) -> Result<Reply, Ending> {
-        let told = same(
-            self.reference.soft_refusal(clause),
-            self.tested.soft_refusal(clause),
-        )?;
-        let refusal = same(
-            self.reference.add_soft(clause).err(),
-            self.tested.add_soft(clause).err(),
-        )?;
-        if refusal.is_none() {
-            self.accepted.add_soft(clause)?;
-        }
-        Ok(reply_to_clause(told, refusal)?)
+    /// Adds the clause to both finders.
+    fn add(&mut self, kind: Kind, clause: &'a [i32]) -> Result<Reply, Ending> {
+        let first = add(&mut self.reference, kind, clause)?;
+        let second = add(&mut self.tested, kind, clause)?;
+        Ok(match same(first, second)? {
+            Some(refusal) => Reply::ClauseRefused(refusal.number()),
+            None => {
+                self.accepted.add(kind, clause)?;
+                Reply::Accepted
+            }
+        })
     }
 
     /// Asks both for the set, each with a buffer of its own.
@@ -103,15 +88,11 @@ impl<'a, F: Finder, G: Finder> Comparison<'a, F, G> {
         let mut other = vec![in self.alloc; UNTOUCHED; bytes]?;
         let first = self.reference.ask(set, &mut buffer);
         let second = self.tested.ask(set, &mut other);
+        self.accepted.check(set, first, &buffer)?;
+        self.accepted.check(set, second, &other)?;
         match (first, second) {
-            (Ok(first), Ok(second)) => {
-                self.accepted.check(set, first, &buffer)?;
-                self.accepted.check(set, second, &other)?;
-                Ok(self.compare_answers(set, first, second)?)
-            }
+            (Ok(first), Ok(second)) => Ok(self.compare_answers(set, first, second)?),
             (Err(first), Err(second)) => {
-                check_untouched(&buffer)?;
-                check_untouched(&other)?;
                 let refusal = same(first, second)?;
                 Ok(Reply::QuestionRefused(refusal.number()))
             }
@@ -181,21 +162,34 @@ impl<'a, F: Finder, G: Finder> Comparison<'a, F, G> {
     }
 }
 
-/// What both refuse with.
+/// Adds the clause to one finder, and answers why it was refused, if it was.
+fn add<F: Finder>(
+    finder: &mut F,
+    kind: Kind,
+    clause: &[i32],
+) -> Result<Option<Refusal>, Disagreement> {
+    let (told, outcome) = match kind {
+        Kind::Hard => (finder.hard_refusal(clause), finder.add_hard(clause)),
+        Kind::Soft => (finder.soft_refusal(clause), finder.add_soft(clause)),
+    };
+    as_told(told, outcome.err())
+}
+
+/// A clause is refused as was told before.
+fn as_told(
+    told: Option<Refusal>,
+    refusal: Option<Refusal>,
+) -> Result<Option<Refusal>, Disagreement> {
+    if told != refusal {
+        return Err(Disagreement::ToldOtherwise);
+    }
+    Ok(refusal)
+}
+
+/// What both answer.
 fn same<R: PartialEq + Drop>(first: R, second: R) -> Result<R, Disagreement> {
     if first != second {
         return Err(Disagreement::Refusals);
     }
     Ok(first)
-}
-
-/// A clause is refused as was told before.
-fn reply_to_clause(told: Option<Refusal>, refusal: Option<Refusal>) -> Result<Reply, Disagreement> {
-    if told != refusal {
-        return Err(Disagreement::ToldOtherwise);
-    }
-    Ok(match refusal {
-        Some(refusal) => Reply::ClauseRefused(refusal.number()),
-        None => Reply::Accepted,
-    })
 }

@@ -1,7 +1,7 @@
 //! Draws inputs: how large each is, its clauses and its questions.
 ghost use Rattle.std.specs.Prelude.{◌<◌};
 
-use crate::inputs::{Call, Input};
+use crate::inputs::{Call, Input, Kind};
 use dice::Dice;
 use std::alloc::{AllocError, Global};
 use terms::SoftSet;
@@ -81,13 +81,12 @@ fn draw_places(dice: &mut Dice, enough: usize) -> usize {
 
 /// A hard or a soft clause.
 fn draw_clause(alloc: Global, dice: &mut Dice, outline: Outline) -> Result<Call, AllocError> {
-    let is_hard = dice.up_to(7) < outline.hard_of_eight;
-    let literals = draw_literals(alloc, dice, outline)?;
-    Ok(if is_hard {
-        Call::Hard(literals)
+    let kind = if dice.up_to(7) < outline.hard_of_eight {
+        Kind::Hard
     } else {
-        Call::Soft(literals)
-    })
+        Kind::Soft
+    };
+    Ok(Call::Add(kind, draw_literals(alloc, dice, outline)?))
 }
 
 /// Literals that may repeat each other or be opposites, now and then with a bad one behind them.

@@ -2,11 +2,18 @@
 use std::alloc::AllocError;
 use terms::{SoftSet, first_bad_literal};
 
+/// Whether a clause is hard or soft.
+#[derive(Clone, Copy, PartialEq, Eq, Debug)]
+pub(crate) enum Kind {
+    Hard,
+    Soft,
+}
+
 /// A call that is made on both finders.
 #[derive(Debug, Drop)]
 pub(crate) enum Call {
-    Hard(Vec<i32>),
-    Soft(Vec<i32>),
+    /// Adds the clause.
+    Add(Kind, Vec<i32>),
     /// Asks for the set with a buffer of so many bytes.
     Ask { set: SoftSet, bytes: usize },
     /// Asks what the assignment breaks.
@@ -28,7 +35,9 @@ impl Input {
         let variables = usize::from(self.variables);
         self.calls
             .iter()
-            .filter(|call| matches!(call, Call::Soft(clause) if is_taken(clause, variables)))
+            .filter(
+                |call| matches!(call, Call::Add(Kind::Soft, clause) if is_taken(clause, variables)),
+            )
             .count()
     }
 

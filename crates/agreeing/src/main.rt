@@ -13,7 +13,7 @@ mod replies;
 use comparing::{Comparison, Finding};
 use dice::Dice;
 use drawing::draw_input;
-use inputs::{Call, Input};
+use inputs::{Call, Input, Kind};
 use itertools::Itertools;
 use replies::Tally;
 use search::Search;
@@ -85,13 +85,13 @@ fn show_finding(
 /// The call in words.
 fn described(alloc: Global, call: &Call) -> Result<String, AllocError> {
     match call {
-        Call::Hard(clause) => {
+        Call::Add(kind, clause) => {
+            let name = match kind {
+                Kind::Hard => "hard",
+                Kind::Soft => "soft",
+            };
             let literals = clause.iter().join(alloc, " ")?;
-            format!(in alloc; "hard clause {{{literals}}}")
-        }
-        Call::Soft(clause) => {
-            let literals = clause.iter().join(alloc, " ")?;
-            format!(in alloc; "soft clause {{{literals}}}")
+            format!(in alloc; "{name} clause {{{literals}}}")
         }
         Call::Ask { set, bytes } => {
             let numbers = set.members().join(alloc, " ")?;
@@ -106,13 +106,13 @@ fn described(alloc: Global, call: &Call) -> Result<String, AllocError> {
 
 #[cfg(test)]
 mod tests {
-    // Each wrong answer is reported, and so are two finders that do not mean the same.
+    // Each wrong answer is reported, and so are two finders that do not mean the same, with the calls in words.
     use super::*;
     use accepted::{Accepted, UNTOUCHED};
     use disagreements::Disagreement;
     use finders::{Answer, Finder};
     use std::test::Fail;
-    use terms::SoftSet;
+    use terms::{Refusal, SoftSet};
 
     #[test]
     fn a_clause_that_one_finder_has_more_is_found(rt: HostRuntime) -> Result<(), Fail> {
@@ -129,8 +129,8 @@ mod tests {
             clause_places: 4,
             literal_places: 4,
             calls: vec![in alloc;
-                Call::Soft(vec![in alloc; 1, 2]?),
-                Call::Soft(vec![in alloc; 1]?),
+                Call::Add(Kind::Soft, vec![in alloc; 1, 2]?),
+                Call::Add(Kind::Soft, vec![in alloc; 1]?),
                 Call::Ask {
                     set: SoftSet::of(&[0]),
                     bytes: 3
@@ -139,7 +139,7 @@ mod tests {
                     set: SoftSet::of(&[0, 1]),
                     bytes: 2
                 },
-                Call::Hard(vec![in alloc; 2]?),
+                Call::Add(Kind::Hard, vec![in alloc; 2]?),
             ]?,
         };
         let mut tally = BTreeMap::new(alloc);
@@ -147,21 +147,37 @@ mod tests {
         let finding = finding.ok_or("no disagreement")?;
         assert_eq!(rt; finding.place, 3);
         assert_eq!(rt; finding.disagreement, Disagreement::Answers);
+        Ok(())
+    }
+
+    #[test]
+    fn a_call_is_told_in_words(rt: HostRuntime) -> Result<(), Fail> {
+        let alloc = rt.alloc();
+        let soft = Call::Add(Kind::Soft, vec![in alloc; 1, -2]?);
+        assert_eq!(rt; described(alloc, &soft)?.as_str(), "soft clause {1 -2}");
+        let hard = Call::Add(Kind::Hard, Vec::new(alloc));
+        assert_eq!(rt; described(alloc, &hard)?.as_str(), "hard clause {}");
+        let question = Call::Ask {
+            set: SoftSet::of(&[0, 1]),
+            bytes: 2,
+        };
         assert_eq!(rt;
-            described(alloc, &input.calls[3])?.as_str(),
+            described(alloc, &question)?.as_str(),
             "ask for {0 1}, with a buffer of 2"
         );
+        let assignment = Call::Broken(vec![in alloc; 1, 0]?);
+        assert_eq!(rt; described(alloc, &assignment)?.as_str(), "what {10} breaks");
         Ok(())
     }
 
     #[test]
     fn wrong_answers_are_found(rt: HostRuntime) -> Result<(), Fail> {
         let mut accepted = Accepted::new(rt.alloc(), 2);
-        accepted.add_hard(&[1, 2])?;
-        accepted.add_soft(&[-1])?;
-        accepted.add_soft(&[-2])?;
+        accepted.add(Kind::Hard, &[1, 2])?;
+        accepted.add(Kind::Soft, &[-1])?;
+        accepted.add(Kind::Soft, &[-2])?;
         let set = SoftSet::of(&[1]);
-        let model = |buffer: &[u8]| accepted.check(set, Answer::Model, buffer);
+        let model = |buffer: &[u8]| accepted.check(set, Ok(Answer::Model), buffer);
         assert_eq!(rt; model(&[1, 0, UNTOUCHED]), Ok(()));
         assert_eq!(rt; model(&[1]), Err(Disagreement::ShortBuffer));
         assert_eq!(rt;
@@ -177,7 +193,7 @@ mod tests {
         assert_eq!(rt; model(&[1, 2]), Err(Disagreement::NoModel), "2 is no value");
         assert_eq!(rt; model(&[1, 0, 0]), Err(Disagreement::Written));
         let core = |numbers: &[usize], buffer: &[u8]| {
-            accepted.check(set, Answer::Core(SoftSet::of(numbers)), buffer)
+            accepted.check(set, Ok(Answer::Core(SoftSet::of(numbers))), buffer)
         };
         assert_eq!(rt; core(&[1], &[UNTOUCHED, UNTOUCHED]), Ok(()));
         assert_eq!(rt;
@@ -185,6 +201,9 @@ mod tests {
             Err(Disagreement::CoreOutside)
         );
         assert_eq!(rt; core(&[1], &[UNTOUCHED, 0]), Err(Disagreement::Written));
+        let refused = |buffer: &[u8]| accepted.check(set, Err(Refusal::TooShort), buffer);
+        assert_eq!(rt; refused(&[UNTOUCHED]), Ok(()));
+        assert_eq!(rt; refused(&[0]), Err(Disagreement::Written));
         Ok(())
     }
 }

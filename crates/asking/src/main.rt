@@ -19,6 +19,7 @@ const NEEDS: [&[i32]; 4] = [&[1, 2], &[-1, 3], &[-2, 4], &[-3, 5]];
 // Wish 0 does without the electric pump, 1 without the diesel pump, 2 without cooling, 3 without a tank, 4 without a meter.
 const WISHES: [&[i32]; 5] = [&[-1], &[-2], &[-3], &[-4], &[-5]];
 
+// The sets of wishes that are asked for; there is no wish 5.
 const ASKED: [&[usize]; 8] = [
     &[],
     &[0],
