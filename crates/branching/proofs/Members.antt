@@ -7,7 +7,7 @@ use Rattle.std.proofs.lemmas.Nat.{and_le_r}
 use Rattle.std.proofs.lemmas.Bool.Decides.{nat_tests}
 use Rattle.terms.specs.Masks.{member, subset, intersect, below}
 use Rattle.terms.specs.Sets.{fits}
-use Rattle.terms.proofs.MaskLaws.{subset_members, intersect_members, below_members}
+use Rattle.terms.proofs.MaskLaws.{subset_members, subset_self, intersect_members, below_members}
 
 -- what is listed and nothing else passes the test, so all that is listed does
 pub all_listed : (p : ℕ → Bool) (ks : List ℕ) → ((k : ℕ) → p k ≡ list_any (λ j. j == k) ks) → list_all p ks ≡ true
@@ -32,13 +32,6 @@ none_within x y none = grind (arith, nat_tests, none, subset_members x y)
 pub none_apart : (x y : ℕ) → ((k : ℕ) → member x k ≡ false) → intersect x y ≡ false
 none_apart x y none = grind (arith, nat_tests, none, intersect_members x y)
 
--- ---- a set, and the same with one number more
-pub subset_self : (x : ℕ) → subset x x ≡ true
-subset_self x = grind (arith, nat_tests, subset_members x x)
-
-pub subset_trans : (x y z : ℕ) → subset x y ≡ true → subset y z ≡ true → subset x z ≡ true
-subset_trans x y z a b = grind (arith, nat_tests, a, b, subset_members x y, subset_members y z, subset_members x z)
-
 -- ---- masks as numbers
 pub below_mask : (x : ℕ) → below 64 x ≡ true → x < 2 ^ 64
 unfolding below
@@ -59,6 +52,7 @@ greater x y s n = ⊎_elim (λ less. less) (λ more. absurd (both_ways (subset y
     same : x ≡ y → subset y x ≡ subset x x
     same i = ap (λ z. subset z x) (sym i)
 
+-- ---- a set, and the same with one number more
 module _ (x more number : ℕ) (e : (k : ℕ) → member more k ≡ (member x k || (number == k && fits k))) where
   pub subset_with : subset x more ≡ true
   subset_with = grind (arith, nat_tests, e, subset_members x more)

@@ -2,8 +2,8 @@
 use Rattle.std.proofs.Common.{◌≡◌, ℕ, ◌<◌, true, false, not, ◌&&◌, eqb, ap, arith}
 use Rattle.std.proofs.lemmas.Bool.Decides.{nat_tests}
 use Rattle.terms.specs.Masks.{member, subset}
-use Rattle.branching.proofs.Members.{part_at_most, subset_trans}
-use Rattle.terms.proofs.MaskLaws.{subset_members}
+use Rattle.branching.proofs.Members.{part_at_most}
+use Rattle.terms.proofs.MaskLaws.{subset_members, subset_trans}
 use Rattle.covers.specs.Meanings.{MakerMeaning}
 use Rattle.covers.specs.Covers.{Needed}
 use Rattle.stores.specs.Trying.{Smaller}

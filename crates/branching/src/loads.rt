@@ -13,7 +13,7 @@ use weights::WeightKind;
 /// cover of the branch has one: so such a cover costs at least what the cores put on, each of them counted once.
 #[derive(Clone, Copy, Debug)]
 pub(crate) struct Loads<W: WeightKind> {
-    loads: [W; 64],
+    loads: [W; SoftSet::CAPACITY],
     /// What was put on, counted once for each core.
     total: W,
     /// Numbers that cannot bear the lightest weight more.
@@ -28,7 +28,7 @@ impl<W: WeightKind> Loads<W> {
         ensures { (weights : List W) → (these : ℕ → Bool) → Bears W.kind weights these result.loads result.total }
     {
         Loads {
-            loads: [W::zero(); 64],
+            loads: [W::zero(); SoftSet::CAPACITY],
             total: W::zero(),
             full: SoftSet::empty(),
             lightest,

@@ -13,7 +13,7 @@ const KEYS: usize = 256;
 pub(crate) const CORES: usize = 512;
 
 /// No core has this place.
-const NO_PLACE: u16 = 512;
+const NO_PLACE: u16 = CORES as u16;
 
 /// The places of cores in lists, one for each key; lower keys come first.
 #[derive(Clone, Copy, Debug)]

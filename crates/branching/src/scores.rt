@@ -10,7 +10,7 @@ use weights::WeightKind;
 /// A score for each soft number.
 #[derive(Clone, Copy, Debug)]
 pub(crate) struct Scores {
-    scores: [u32; 64],
+    scores: [u32; SoftSet::CAPACITY],
     /// The numbers with a score.
     pub(crate) left: SoftSet,
 }
@@ -20,7 +20,7 @@ impl Scores {
         ensures { (k : ℕ) → member result.left k ≡ false }
     {
         Scores {
-            scores: [0; 64],
+            scores: [0; SoftSet::CAPACITY],
             left: SoftSet::empty(),
         }
     }

@@ -218,8 +218,14 @@ impl<W: WeightKind> Store<W> {
         ensures value { (rest : ℕ) → Without cover number rest → result ≡ (if is_cover self.now rest then rest else cover) }
         ensures smaller { IsTrue (is_cover self.now cover) → Smaller self.now cover number result }
     {
-        let rest = cover.remove(number);
-        if self.is_cover(rest) { rest } else { cover }
+        self.cover_or(cover.remove(number), cover)
+    }
+
+    /// The set, where it is a cover; otherwise the other.
+    fn cover_or(&self, set: SoftSet, other: SoftSet) -> SoftSet
+        ensures { result ≡ (if is_cover self.now set then set else other) }
+    {
+        if self.is_cover(set) { set } else { other }
     }
 
     /// The set, where it is a cover too and costs less; otherwise the cover.

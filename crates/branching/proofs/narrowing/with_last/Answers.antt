@@ -1,6 +1,7 @@
 use Rattle.std.proofs.Common.{refl}
 use Rattle.branching.proofs.Branching.{none_left, last_forced}
-use Rattle.branching.proofs.Members.{subset_self, subset_with, below_with}
+use Rattle.terms.proofs.MaskLaws.{subset_self}
+use Rattle.branching.proofs.Members.{subset_with, below_with}
 use Rattle.branching.proofs.narrowing.with_last.Goals as goal
 
 pub returns-then-intersects-clause-more : goal.returns-then-intersects-clause-more

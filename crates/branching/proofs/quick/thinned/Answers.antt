@@ -1,4 +1,4 @@
-use Rattle.branching.proofs.Members.{subset_trans}
+use Rattle.terms.proofs.MaskLaws.{subset_trans}
 use Rattle.branching.proofs.Thinning.{fewer, tried}
 use Rattle.branching.proofs.quick.thinned.Goals as goal
 

@@ -1,7 +1,8 @@
 use Rattle.std.proofs.lemmas.Bool.{both_ways}
 use Rattle.terms.specs.Masks.{intersect}
 use Rattle.branching.proofs.Branching.{in_parts, one_more_out}
-use Rattle.branching.proofs.Members.{subset_self, subset_trans, subset_with, below_with}
+use Rattle.terms.proofs.MaskLaws.{subset_self, subset_trans}
+use Rattle.branching.proofs.Members.{subset_with, below_with}
 use Rattle.branching.proofs.branch_and_bound.BranchAndBoundMaker.with_dear.Goals as goal
 
 pub loop-number-init : goal.loop-number-init

@@ -2,7 +2,7 @@ use Rattle.std.proofs.Common.{refl}
 use Rattle.std.proofs.lemmas.Bool.{both_ways}
 use Rattle.branching.specs.Branches.{meets_in, in_branch}
 use Rattle.branching.proofs.Branching.{in_parts, met_in_branch, not_so}
-use Rattle.branching.proofs.Members.{subset_self, subset_trans}
+use Rattle.terms.proofs.MaskLaws.{subset_self, subset_trans}
 use Rattle.branching.proofs.branch_and_bound.BranchAndBoundMaker.with_forced.Goals as goal
 
 pub loop-core-init : goal.loop-core-init
