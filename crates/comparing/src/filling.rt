@@ -9,6 +9,13 @@ use dice::Dice;
 use terms::SoftSet;
 use weights::WeightKind;
 
+/// What the stores are drawn by, and what was compared so far.
+#[derive(Debug, Drop)]
+pub(crate) struct Comparison {
+    pub(crate) dice: Dice,
+    pub(crate) counts: Counts,
+}
+
 /// How large a store is, and how its weights and cores are drawn.
 #[derive(Clone, Copy, Debug)]
 struct Outline {
@@ -40,20 +47,19 @@ impl Outline {
 /// Draws weights and cores and adds them, and compares the covers, and then the same again.
 pub(crate) fn fill<R: CoverMaker, T: CoverMaker<Weight = R::Weight>>(
     pair: &mut Pair<R, T>,
-    dice: &mut Dice,
+    comparison: &mut Comparison,
     number: usize,
-    counts: &mut Counts,
 ) -> Result<()>
 where
     R::Weight: Drawn,
 {
-    let outline = Outline::draw(dice, number);
+    let outline = Outline::draw(&mut comparison.dice, number);
     for weights in outline.weights {
-        add_weights(pair, dice, outline.spread, weights, counts)?;
-        add_cores(pair, dice, outline, counts)?;
-        compare_costs(pair, dice, counts)?;
+        add_weights(pair, comparison, outline.spread, weights)?;
+        add_cores(pair, comparison, outline)?;
+        compare_costs(pair, comparison)?;
         let (first, second) = pair.compare_covers()?;
-        counts.count_covers(first, second);
+        comparison.counts.count_covers(first, second);
     }
     Ok(())
 }
@@ -61,22 +67,22 @@ where
 /// Adds so many weights, now and then one of zero.
 fn add_weights<R: CoverMaker, T: CoverMaker<Weight = R::Weight>>(
     pair: &mut Pair<R, T>,
-    dice: &mut Dice,
+    comparison: &mut Comparison,
     spread: Spread,
     weights: u8,
-    counts: &mut Counts,
 ) -> Result<()>
 where
     R::Weight: Drawn,
 {
     for _ in 0..weights {
-        let weight = if dice.one_in(30) {
+        let weight = if comparison.dice.one_in(30) {
             R::Weight::zero()
         } else {
-            R::Weight::draw(dice, spread)
+            R::Weight::draw(&mut comparison.dice, spread)
         };
         let refusal = pair.add_weight(weight);
-        counts.count_weight(refusal.context(format_args!("adding the weight {weight}"))?);
+        let refusal = refusal.context(format_args!("adding the weight {weight}"))?;
+        comparison.counts.count_weight(refusal);
     }
     Ok(())
 }
@@ -84,39 +90,35 @@ where
 /// Adds as many cores as the outline says.
 fn add_cores<R: CoverMaker, T: CoverMaker<Weight = R::Weight>>(
     pair: &mut Pair<R, T>,
-    dice: &mut Dice,
+    comparison: &mut Comparison,
     outline: Outline,
-    counts: &mut Counts,
 ) -> Result<()>
 where
     R::Weight: Drawn,
 {
     for _ in 0..outline.cores {
-        let core = draw_core(dice, outline.longest, &pair.taken);
+        let core = draw_core(&mut comparison.dice, outline.longest, &pair.taken);
         let refusal = pair.add_core(core);
-        counts.count_core(refusal.context(format_args!("adding the core {core:?}"))?);
+        let refusal = refusal.context(format_args!("adding the core {core:?}"))?;
+        comparison.counts.count_core(refusal);
     }
     Ok(())
 }
 
-/// Compares the costs of some sets, now and then of one with a number that is not given.
+/// Compares the costs of some sets.
 fn compare_costs<R: CoverMaker, T: CoverMaker<Weight = R::Weight>>(
     pair: &Pair<R, T>,
-    dice: &mut Dice,
-    counts: &mut Counts,
+    comparison: &mut Comparison,
 ) -> Result<()>
 where
     R::Weight: Drawn,
 {
     let given = given(&pair.taken);
     for _ in 0..4 {
-        let size = dice.up_to(given);
-        let mut set = draw_numbers(dice, given, size);
-        if dice.one_in(10) {
-            set = set.insert(draw_unknown(dice, given));
-        }
+        let set = draw_set(&mut comparison.dice, given);
         let refusal = pair.compare_cost(set);
-        counts.count_cost(refusal.context(format_args!("the cost of {set:?}"))?);
+        let refusal = refusal.context(format_args!("the cost of {set:?}"))?;
+        comparison.counts.count_cost(refusal);
     }
     Ok(())
 }
@@ -142,6 +144,17 @@ fn draw_core<W: WeightKind>(dice: &mut Dice, longest: u8, taken: &Taken<W>) -> S
             earlier.remove(earlier.first().unwrap_or(0))
         }
         _ => numbers,
+    }
+}
+
+/// Some of the given numbers, and now and then one that is not given.
+fn draw_set(dice: &mut Dice, given: u8) -> SoftSet {
+    let size = dice.up_to(given);
+    let numbers = draw_numbers(dice, given, size);
+    if dice.one_in(10) {
+        numbers.insert(draw_unknown(dice, given))
+    } else {
+        numbers
     }
 }
 

@@ -11,14 +11,19 @@ use weights::{Levels, Plain};
 
 /// A maker, and the weights and cores that it was given.
 #[derive(Drop)]
-struct Large<C: CoverMaker> {
+pub(crate) struct Large<C: CoverMaker> {
     maker: C,
     taken: Taken<C::Weight>,
 }
 
 impl<C: CoverMaker + Drop> Large<C> {
     /// A maker that has to take all of these weights and cores, and to keep each core.
-    fn new(alloc: Global, maker: C, weights: &[C::Weight], cores: &[SoftSet]) -> Result<Large<C>> {
+    pub(crate) fn new(
+        alloc: Global,
+        maker: C,
+        weights: &[C::Weight],
+        cores: &[SoftSet],
+    ) -> Result<Large<C>> {
         let mut large = Large {
             maker,
             taken: Taken::new(alloc),
@@ -38,7 +43,7 @@ impl<C: CoverMaker + Drop> Large<C> {
     }
 
     /// Compares the cost of the least cover with what was worked out, and shows it.
-    fn show(&self, rt: &impl Print, name: &str, cost: C::Weight) -> Result<()>
+    pub(crate) fn show(&self, rt: &impl Print, name: &str, cost: C::Weight) -> Result<()>
     where
         C::Weight: fmt::Display,
     {
@@ -57,7 +62,10 @@ impl<C: CoverMaker + Drop> Large<C> {
 }
 
 /// The call is refused with this, or accepted where there is none.
-fn check_refusal(outcome: Result<(), Refusal>, refusal: Option<Refusal>) -> Result<(), Difference> {
+pub(crate) fn check_refusal(
+    outcome: Result<(), Refusal>,
+    refusal: Option<Refusal>,
+) -> Result<(), Difference> {
     if outcome.err() != refusal {
         return Err(Difference::Places);
     }

@@ -16,7 +16,7 @@ use counting::CountThroughMaker;
 use counts::Counts;
 use covers::CoverMaker;
 use dice::Dice;
-use filling::fill;
+use filling::{Comparison, fill};
 use itertools::Itertools;
 use large::show_large_stores;
 use pairs::Pair;
@@ -30,23 +30,25 @@ const STORES: usize = 3000;
 const START: u64 = 0x9e37_79b9_7f4a_7c15;
 
 fn main(rt: HostRuntime) -> Result<()> {
-    let mut dice = Dice::new(START);
-    let mut counts = Counts::new();
+    let mut comparison = Comparison {
+        dice: Dice::new(START),
+        counts: Counts::new(),
+    };
     for number in 0..STORES {
         if number % 2 == 0 {
             let reference = CountThroughMaker::<Plain>::new(rt.alloc())?;
             let pair = Pair::new(rt.alloc(), reference, BranchAndBoundMaker::new(rt.alloc())?);
-            compare_on(&rt, pair, &mut dice, number, &mut counts)?;
+            compare_on(&rt, pair, &mut comparison, number)?;
         } else {
             let reference = CountThroughMaker::<Levels>::new(rt.alloc())?;
             let pair = Pair::new(rt.alloc(), reference, BranchAndBoundMaker::new(rt.alloc())?);
-            compare_on(&rt, pair, &mut dice, number, &mut counts)?;
+            compare_on(&rt, pair, &mut comparison, number)?;
         }
     }
     println!(rt;
         "The count-through maker and the branch-and-bound maker were given {STORES} stores, half of them of each weight kind."
     )?;
-    counts.show(&rt)?;
+    comparison.counts.show(&rt)?;
     println!(rt; "No difference.")?;
     println!(rt; "The branch-and-bound maker was given large stores.")?;
     show_large_stores(&rt)
@@ -56,14 +58,13 @@ fn main(rt: HostRuntime) -> Result<()> {
 fn compare_on<R: CoverMaker + Drop, T: CoverMaker<Weight = R::Weight> + Drop>(
     rt: &(impl Print + AllocGlobal),
     mut pair: Pair<R, T>,
-    dice: &mut Dice,
+    comparison: &mut Comparison,
     number: usize,
-    counts: &mut Counts,
 ) -> Result<()>
 where
     R::Weight: Drawn,
 {
-    let outcome = fill(&mut pair, dice, number, counts);
+    let outcome = fill(&mut pair, comparison, number);
     if outcome.is_err() {
         show_pair(rt, &pair)?;
     }
@@ -106,9 +107,10 @@ mod tests {
     // Makers that do not mean the same are told apart, and so are covers of other cores.
     use super::*;
     use differences::Difference;
+    use large::{Large, check_refusal};
     use std::test::Fail;
     use taken::Taken;
-    use terms::SoftSet;
+    use terms::{Refusal, SoftSet};
 
     #[test]
     fn a_core_that_one_maker_has_more_is_found(rt: HostRuntime) -> Result<(), Fail> {
@@ -121,10 +123,27 @@ mod tests {
         assert!(rt; pair.compare_covers().is_ok());
         assert_eq!(rt; pair.reference.add_core(SoftSet::of(&[1])), Ok(()));
         assert_eq!(rt; pair.compare_covers().err(), Some(Difference::LeastCosts));
-        assert!(rt;
-            pair.add_core(SoftSet::of(&[0])).is_err(),
-            "they keep 2 cores and 1"
-        );
+        assert_eq!(rt; pair.compare_counts(), Ok(()), "each keeps one core");
+        assert_eq!(rt; pair.reference.add_core(SoftSet::of(&[0])), Ok(()));
+        assert_eq!(rt; pair.compare_counts(), Err(Difference::CoreCounts));
+        Ok(())
+    }
+
+    #[test]
+    fn a_weight_that_one_maker_has_more_is_found(rt: HostRuntime) -> Result<(), Fail> {
+        let reference = CountThroughMaker::new(rt.alloc())?;
+        let tested = BranchAndBoundMaker::new(rt.alloc())?;
+        let mut pair = Pair::new(rt.alloc(), reference, tested);
+        assert_eq!(rt; pair.tested.add_weight(Plain::new(3)), Ok(()));
+        assert_eq!(rt; pair.compare_counts(), Err(Difference::SoftCounts));
+        let set = SoftSet::of(&[0]);
+        assert_eq!(rt; pair.compare_cost(set), Err(Difference::Refusals));
+        assert_eq!(rt; pair.reference.add_weight(Plain::new(2)), Ok(()));
+        pair.taken.add_weight(Plain::new(2))?;
+        assert_eq!(rt; pair.compare_cost(set), Err(Difference::Costs), "2 and 3");
+        assert_eq!(rt; pair.reference.add_weight(Plain::new(2)), Ok(()));
+        let outcome = pair.compare_cost(SoftSet::of(&[1]));
+        assert_eq!(rt; outcome, Err(Difference::Refusals));
         Ok(())
     }
 
@@ -149,6 +168,24 @@ mod tests {
             Some(Difference::Costs),
             "3 is not given"
         );
+        Ok(())
+    }
+
+    #[test]
+    fn what_large_stores_answer_is_checked(rt: HostRuntime) -> Result<(), Fail> {
+        let weights = [2, 3].map(Plain::new);
+        let pair = SoftSet::of(&[0, 1]);
+        let maker = BranchAndBoundMaker::new(rt.alloc())?;
+        let large = Large::new(rt.alloc(), maker, &weights, &[pair])?;
+        assert!(rt; large.show(&rt, "A pair", Plain::new(2)).is_ok());
+        assert!(rt; large.show(&rt, "A pair", Plain::new(1)).is_err());
+        assert!(rt; large.show(&rt, "A pair", Plain::new(3)).is_err());
+        let maker = BranchAndBoundMaker::new(rt.alloc())?;
+        let twice = Large::new(rt.alloc(), maker, &weights, &[pair, pair]);
+        assert!(rt; twice.is_err(), "one core is kept");
+        let full = Some(Refusal::NoCorePlace);
+        assert_eq!(rt; check_refusal(Err(Refusal::NoCorePlace), full), Ok(()));
+        assert_eq!(rt; check_refusal(Ok(()), full), Err(Difference::Places));
         Ok(())
     }
 }

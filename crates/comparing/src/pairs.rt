@@ -57,7 +57,7 @@ impl<R: CoverMaker, T: CoverMaker<Weight = R::Weight>> Pair<R, T> {
     }
 
     /// Both have the weights that were added, and keep as many of the cores as they should.
-    fn compare_counts(&self) -> Result<(), Difference> {
+    pub(crate) fn compare_counts(&self) -> Result<(), Difference> {
         let softs = self.taken.weights().len();
         if self.reference.soft_count() != softs || self.tested.soft_count() != softs {
             return Err(Difference::SoftCounts);
