@@ -60,13 +60,7 @@ fn main(rt: HostRuntime) -> io::Result<()> {
     ];
     play_late_wish(&rt, &weights, Levels::new(1, 0, 0))?;
     println!(rt; "A cover maker in use.")?;
-    let mut maker = CountThroughMaker::new(rt.alloc())?;
-    let _ = maker.add_weight(Plain::new(7));
-    let finder = CountThrough::new(&mut [], &mut [], VARIABLES);
-    let mut job = Job::open(finder, maker);
-    add_hard(&rt, &mut job, &[1, 2])?;
-    add_soft(&rt, &mut job, Plain::new(3), &[-1])?;
-    play_rounds(&rt, &mut job)
+    play_on_used_maker(&rt)
 }
 
 /// A best plan, a hard clause that it breaks, a best plan again, and a hard clause that leaves none.
@@ -105,6 +99,17 @@ fn play_late_wish<W: WeightKind + fmt::Display>(
     play_rounds(rt, &mut job)?;
     add_soft(rt, &mut job, late, &[1])?;
     add_soft(rt, &mut job, late, &[1])?;
+    play_rounds(rt, &mut job)
+}
+
+/// A job on a cover maker that has a weight already.
+fn play_on_used_maker(rt: &(impl Print + AllocGlobal)) -> io::Result<()> {
+    let mut maker = CountThroughMaker::new(rt.alloc())?;
+    let _ = maker.add_weight(Plain::new(7));
+    let finder = CountThrough::new(&mut [], &mut [], VARIABLES);
+    let mut job = Job::open(finder, maker);
+    add_hard(rt, &mut job, &[1, 2])?;
+    add_soft(rt, &mut job, Plain::new(3), &[-1])?;
     play_rounds(rt, &mut job)
 }
 
