@@ -1,4 +1,5 @@
 pub mod Clauses
+pub mod Displays
 pub mod Lines
 pub mod Opening
 pub mod Played

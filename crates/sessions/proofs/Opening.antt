@@ -6,8 +6,7 @@ use Rattle.std.proofs.lemmas.List.Elements.{All-cons}
 use Rattle.covers.specs.Meanings.{MakerMeaning, fresh}
 use Rattle.finders.specs.Meanings.{FinderMeaning}
 use Rattle.sessions.specs.Outputs.{finder, Opened}
-use Rattle.sessions.specs.Sessions.{TextLine, Session}
-use Rattle.sessions.proofs.Played.{Later}
+use Rattle.sessions.specs.Sessions.{TextLine, Later, Session}
 use Rattle.texts.specs.Cuts.{numbered}
 use Rattle.texts.specs.Lines.{opens_job}
 use Rattle.texts.specs.declared.line.Line.{Line}

@@ -1,9 +1,9 @@
 -- Lines that are played one after another.
-use Rattle.std.proofs.Common.{◌≡◌, ℕ, true, false, ◌==◌, List, [], ◌∷◌, ◌++◌, All, Ok, Err, Result, refl, sym, subst, ◌∙◌, append_assoc, append-nil}
+use Rattle.std.proofs.Common.{◌≡◌, ℕ, true, List, [], ◌∷◌, ◌++◌, All, Ok, Err, Result, refl, sym, subst, ◌∙◌, append_assoc, append-nil}
 use Rattle.std.proofs.lemmas.List.Elements.{All-rest}
 use Rattle.covers.specs.Meanings.{MakerMeaning}
 use Rattle.finders.specs.Meanings.{FinderMeaning}
-use Rattle.sessions.specs.Sessions.{TextLine, Lines, none, one_more, Session}
+use Rattle.sessions.specs.Sessions.{TextLine, Later, Lines, none, one_more, Session}
 use Rattle.sessions.specs.Texts.{printed}
 use Rattle.sessions.specs.Workers.{Answered, FaultPrinted, LinePlayed}
 use Rattle.sessions.specs.declared.faults.SessionFault.{SessionFault}
@@ -13,10 +13,6 @@ use Rattle.theory.specs.Brackets.{BracketStands, OpensBracket}
 use Rattle.theory.specs.Logs.{Log, Logged}
 use Rattle.theory.specs.States.{State, opened_on, are_fresh}
 use Rattle.weights.specs.Kinds.{Kind}
-
--- not the first line of a text
-abbrev pub Later : TextLine → Type 0
-Later l = (l.0 == 1) ≡ false
 
 -- the fault at the end of a line belongs to what the line prints
 pub in_full : (P : List ℕ → Type 0) (old middle new : List ℕ) (played : Result (Unit {0}) SessionFault) → Answered P old middle played

@@ -16,9 +16,16 @@ use Rattle.texts.specs.declared.weight_form.WeightForm.TheVariants.{Plain, Level
 use Rattle.weights.specs.Levelled.{levels_kind}
 use Rattle.weights.specs.Plainly.{plain_kind}
 
--- a finder for n variables, with places for 64 soft clauses, 4,096 clauses in all and 16,384 literals
+-- the places of the two tables: for clauses, and for their literals
+abbrev pub clause_places : ℕ
+clause_places = 4096
+
+abbrev pub literal_places : ℕ
+literal_places = 16384
+
+-- a finder for n variables on these tables, with places for 64 soft clauses
 abbrev pub finder : ℕ → FinderMeaning
-finder n = fresh_finder n 64 4096 16384
+finder n = fresh_finder n 64 clause_places literal_places
 
 -- a job is opened, with weights of the kind that is written so
 abbrev pub Opened : ℕ → WeightForm → List TextLine → List ℕ → Type 0
@@ -47,9 +54,12 @@ abbrev pub PrintsWithin : Bool → List ℕ → List ℕ → Type 0
 PrintsWithin true text output = output ≡ printed (whole_line 0 TextTooLong)
 PrintsWithin false text output = PrintsLines (numbered 1 (lines text)) output
 
--- a text of more than 65,536 bytes is not read
+abbrev pub most_bytes : ℕ
+most_bytes = 65536
+
+-- a text with more bytes than that is not read
 abbrev pub Prints : List ℕ → List ℕ → Type 0
-Prints text output = PrintsWithin (nat_lt 65536 (length text)) text output
+Prints text output = PrintsWithin (nat_lt most_bytes (length text)) text output
 
 -- a text prints no more than a fault, unless memory ran out
 abbrev pub PrintsFault : List ℕ → SessionFault → Type 0

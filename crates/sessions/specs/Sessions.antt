@@ -1,5 +1,5 @@
 -- A session: the lines of a text, the log of the job's calls that they make, and what is printed.
-use Rattle.std.specs.Prelude.{ℕ, suc, ◌≤◌, ◌<◌, List, [], ◌∷◌, ◌++◌, Some, None, Option, Ok, Err, Result}
+use Rattle.std.specs.Prelude.{◌≡◌, ℕ, suc, false, ◌==◌, ◌≤◌, ◌<◌, List, [], ◌∷◌, ◌++◌, Some, None, Option, Ok, Err, Result}
 use Rattle.terms.specs.declared.refusals.Refusal.{Refusal}
 use Rattle.covers.specs.Meanings.{MakerMeaning}
 use Rattle.finders.specs.Meanings.{FinderMeaning}
@@ -18,6 +18,10 @@ use Rattle.weights.specs.Kinds.{Kind}
 -- a line of a text, with its number
 abbrev pub TextLine : Type 0
 TextLine = ℕ × List ℕ
+
+-- not the first line of a text
+abbrev pub Later : TextLine → Type 0
+Later l = (l.0 == 1) ≡ false
 
 module _ {W : Type 0} {K : Kind W} where
   -- ---- the calls of a line

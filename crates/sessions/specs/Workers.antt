@@ -7,6 +7,7 @@ use Rattle.sessions.specs.Texts.{printed, call_fault}
 use Rattle.sessions.specs.declared.faults.SessionFault.{SessionFault}
 use Rattle.sessions.specs.declared.faults.SessionFault.TheVariants.{Memory, Line}
 use Rattle.texts.specs.Cuts.{fields, numbered}
+use Rattle.texts.specs.Faults.{field_fault}
 use Rattle.texts.specs.Lines.{Field, line_said}
 use Rattle.texts.specs.declared.faults.FieldFault.{FieldFault}
 use Rattle.texts.specs.declared.faults.LineFault.{LineFault}
@@ -25,7 +26,7 @@ ClauseFault number fields Memory = Unit {0}
 
 abbrev pub WeightRead : {W : Type 0} → Kind W → WeightForm → ℕ → Field → Result W FieldFault → Type 0
 WeightRead K form number field (Ok w) = WeightSaid K form field.1 (Some w)
-WeightRead K form number field (Err fault) = WeightSaid K form field.1 None × (fault ≡ record { line = number; field = field.0 })
+WeightRead K form number field (Err fault) = WeightSaid K form field.1 None × (fault ≡ field_fault number field)
 
 -- ---- faults
 -- what a call on a line comes to

@@ -1,7 +1,7 @@
 //! Plays the lines of a session against one job.
-ghost use Rattle.std.specs.Prelude.{◌≡◌, true, false, ◌==◌, All, IfOk, string_bytes};
+ghost use Rattle.std.specs.Prelude.{◌≡◌, true, All, IfOk, string_bytes};
 ghost use Rattle.jobs.specs.Jobs.{state};
-ghost use Rattle.sessions.specs.Sessions.{Session};
+ghost use Rattle.sessions.specs.Sessions.{Later, Session};
 ghost use Rattle.sessions.specs.Workers.{Answered, LinePlayed, FaultPrinted};
 ghost use Rattle.theory.specs.States.{are_fresh};
 ghost use Rattle.texts.specs.Left.{left, as_numbered};
@@ -24,7 +24,7 @@ fn play_line<F: Finder, C: CoverMaker>(
     line: Piece<'_>,
     output: &mut String,
 ) -> Result<(), SessionFault>
-    requires later { (line.number == 1) ≡ false }
+    requires later { Later (as_numbered line) }
     ensures { Answered (LinePlayed form (as_numbered line.entry) (state job.old) (state job.new)) (string_bytes output.old) (string_bytes output.new) result }
 {
     let number = line.number;
@@ -54,7 +54,7 @@ pub(crate) fn play_lines<F: Finder + Drop, C: CoverMaker + Drop>(
     lines: Pieces<'_>,
 ) -> Result<String, AllocError>
     requires fresh { are_fresh (F.Finder.meaning finder) (C.CoverMaker.meaning maker) ≡ true }
-    requires later { All (λ l. (l.0 == 1) ≡ false) (left lines) }
+    requires later { All Later (left lines) }
     ensures { IfOk result (λ output. Session C.Weight.kind form (F.Finder.meaning finder) (C.CoverMaker.meaning maker) (left lines.entry) (string_bytes output)) }
 {
     let mut job = Job::open(finder, maker);

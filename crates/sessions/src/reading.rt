@@ -20,7 +20,7 @@ pub(crate) fn read_clause(
     let mut clause = Vec::new(alloc);
     for field in fields {
         let Some(literal) = read_literal(field.bytes) else {
-            return Err(malformed(line, field).into());
+            return Err(FieldFault::at(line, field).into());
         };
         clause.push(literal)?;
     }
@@ -36,17 +36,7 @@ pub(crate) fn read_weight<W: WeightKind>(
     ensures { WeightRead W.WeightKind.kind form line (as_numbered field.entry) result }
 {
     let Some(numbers) = form.read(field.bytes) else {
-        return Err(malformed(line, field));
+        return Err(FieldFault::at(line, field));
     };
-    W::from_numbers(numbers).ok_or(malformed(line, field))
-}
-
-/// A field that is not written as asked.
-fn malformed(line: usize, field: Piece<'_>) -> FieldFault
-    ensures { result ≡ record { line = line; field = field.entry.number } }
-{
-    FieldFault {
-        line,
-        field: field.number,
-    }
+    W::from_numbers(numbers).ok_or(FieldFault::at(line, field))
 }

@@ -1,6 +1,7 @@
 //! Plays a whole session text.
-ghost use Rattle.std.specs.Prelude.{◌≡◌, ◌≤◌, IfOk, MatchResult, All, false, ◌==◌, string_bytes, length};
-ghost use Rattle.sessions.specs.Outputs.{Prints, PrintsFault, Opened, variables_checked, finder};
+ghost use Rattle.std.specs.Prelude.{◌≡◌, ◌≤◌, IfOk, MatchResult, All, nat_lt, string_bytes, length};
+ghost use Rattle.sessions.specs.Outputs.{Prints, PrintsFault, most_bytes, Opened, variables_checked, clause_places, literal_places, finder};
+ghost use Rattle.sessions.specs.Sessions.{Later};
 ghost use Rattle.search.specs.Finder.{finder_meaning};
 ghost use Rattle.texts.specs.Left.{left};
 
@@ -18,6 +19,11 @@ use weights::{Levels, Plain};
 /// The most bytes that a session text has.
 pub const MOST_BYTES: usize = 65_536;
 
+// The places of the two tables: for clauses, and for their literals.
+const CLAUSE_PLACES: usize = 4_096;
+
+const LITERAL_PLACES: usize = 16_384;
+
 /// What a session text prints: its lines are played against one job, on the search under the shrinking layer and on the
 /// branch-and-bound maker. The only error is want of memory.
 pub fn play(alloc: Global, text: &[u8]) -> Result<String, AllocError>
@@ -34,7 +40,7 @@ pub fn play(alloc: Global, text: &[u8]) -> Result<String, AllocError>
 fn play_text(alloc: Global, text: &[u8]) -> Result<String, SessionFault>
     ensures { MatchResult result (λ output. Prints text.now (string_bytes output)) (PrintsFault text.now) }
 {
-    if text.len() > MOST_BYTES {
+    if is_too_long(text) {
         return Err(LineFault::whole(0, Refusal::TextTooLong).into());
     }
     let mut lines = Pieces::lines(text);
@@ -46,6 +52,13 @@ fn play_text(alloc: Global, text: &[u8]) -> Result<String, SessionFault>
     };
     check_variables(n)?;
     Ok(open_job(alloc, n, form, lines)?)
+}
+
+/// Whether a text has more bytes than are read.
+fn is_too_long(text: &[u8]) -> bool
+    ensures { result ≡ nat_lt most_bytes (length text.now) }
+{
+    text.len() > MOST_BYTES
 }
 
 /// Whether the search takes so many variables.
@@ -67,11 +80,11 @@ fn open_job(
     lines: Pieces<'_>,
 ) -> Result<String, AllocError>
     requires few { n ≤ 256 }
-    requires later { All (λ l. (l.0 == 1) ≡ false) (left lines) }
+    requires later { All Later (left lines) }
     ensures { IfOk result (λ output. Opened n form (left lines.entry) (string_bytes output)) }
 {
-    let mut records = vec![in alloc; ClauseRecord::blank(); 4_096]?;
-    let mut literals = vec![in alloc; 0; 16_384]?;
+    let mut records = vec![in alloc; ClauseRecord::blank(); CLAUSE_PLACES]?;
+    let mut literals = vec![in alloc; 0; LITERAL_PLACES]?;
     let finder = make_finder(&mut records, &mut literals, n);
     match form {
         WeightForm::Plain => {
@@ -91,8 +104,8 @@ fn make_finder<'a>(
     literals: &'a mut [i32],
     n: usize,
 ) -> Shrinking<Search<'a>>
-    requires records { length records.old ≡ 4096 }
-    requires literals { length literals.old ≡ 16384 }
+    requires records { length records.old ≡ clause_places }
+    requires literals { length literals.old ≡ literal_places }
     requires few { n ≤ 256 }
     ensures { finder_meaning result ≡ finder n }
 {

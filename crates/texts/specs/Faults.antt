@@ -8,6 +8,10 @@ use Rattle.terms.specs.declared.refusals.Refusal.TheVariants.{MalformedField}
 use Rattle.texts.specs.declared.faults.FieldFault.{FieldFault}
 use Rattle.texts.specs.declared.faults.LineFault.{LineFault}
 
+-- a field of a line, by its number
+abbrev pub field_fault : ℕ → ℕ × List ℕ → FieldFault
+field_fault line field = record { line = line; field = field.0 }
+
 -- a line that is refused as a whole
 abbrev pub whole_line : ℕ → Refusal → LineFault
 whole_line line refusal = record { line = line; field = 0; refusal = refusal }

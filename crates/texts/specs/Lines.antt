@@ -2,7 +2,7 @@
 use Rattle.std.specs.Prelude.{ℕ, Bool, true, false, if◌then◌else◌, List, [], ◌∷◌, Some, None, Option, Ok, Err, Result, ◌==◌}
 use Rattle.terms.specs.declared.refusals.Refusal.{Refusal}
 use Rattle.terms.specs.declared.refusals.Refusal.TheVariants.{WrongLetter, WrongFieldCount}
-use Rattle.texts.specs.Faults.{whole_line, malformed}
+use Rattle.texts.specs.Faults.{field_fault, whole_line, malformed}
 use Rattle.texts.specs.Left.{left, as_numbered}
 use Rattle.texts.specs.Numbers.{number, five_digits}
 use Rattle.texts.specs.declared.faults.LineFault.{LineFault}
@@ -63,7 +63,7 @@ refused_whole line refusal = Err (whole_line line refusal)
 
 -- a field that is not written as asked
 abbrev pub malformed_field : ℕ → Field → LineFault
-malformed_field line field = malformed (record { line = line; field = field.0 })
+malformed_field line field = malformed (field_fault line field)
 
 abbrev pub job_by : ℕ → Field → Field → Option ℕ → Option WeightForm → Result Said LineFault
 job_by line n kind None f = Err (malformed_field line n)
@@ -78,12 +78,16 @@ abbrev pub soft_said : ℕ → List Field → Result Said LineFault
 soft_said line [] = refused_whole line WrongFieldCount
 soft_said line (weight ∷ literals) = Ok (soft weight literals)
 
+-- the most rounds that a line asks for
+abbrev pub most_rounds : ℕ
+most_rounds = 65535
+
 abbrev pub rounds_by : ℕ → Field → Option ℕ → Result Said LineFault
 rounds_by line count None = Err (malformed_field line count)
 rounds_by line count (Some k) = Ok (rounds k)
 
 abbrev pub rounds_said : ℕ → List Field → Result Said LineFault
-rounds_said line (count ∷ []) = rounds_by line count (number 65535 count.1)
+rounds_said line (count ∷ []) = rounds_by line count (number most_rounds count.1)
 rounds_said line fields = refused_whole line WrongFieldCount
 
 abbrev pub query_said : ℕ → List Field → Result Said LineFault

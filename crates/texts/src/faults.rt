@@ -1,8 +1,10 @@
 //! What is wrong with a field, and with a line.
 ghost use Rattle.std.specs.Prelude.{◌≡◌, Some};
 ghost use Rattle.terms.specs.Refusals.{layer_of};
-ghost use Rattle.texts.specs.Faults.{whole_line, fault_text, malformed, letter_or_dash};
+ghost use Rattle.texts.specs.Faults.{field_fault, whole_line, fault_text, malformed, letter_or_dash};
+ghost use Rattle.texts.specs.Left.{as_numbered};
 
+use crate::pieces::Piece;
 use std::fmt;
 use terms::Refusal;
 
@@ -19,6 +21,18 @@ pub struct LineFault {
     pub line: usize,
     pub field: usize,
     pub refusal: Refusal,
+}
+
+impl FieldFault {
+    /// The fault of this field of the line.
+    pub fn at(line: usize, field: Piece<'_>) -> FieldFault
+        ensures { result ≡ field_fault line (as_numbered field.entry) }
+    {
+        FieldFault {
+            line,
+            field: field.number,
+        }
+    }
 }
 
 impl LineFault {

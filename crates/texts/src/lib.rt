@@ -17,6 +17,7 @@ pub use weight_form::{WeightForm, WeightText};
 mod tests {
     // Examples with values worked out by hand, at the edges of what each form takes.
     use super::*;
+    use std::process::Abort;
     use std::test::Fail;
     use terms::{Part, Refusal};
 
@@ -33,6 +34,18 @@ mod tests {
             number,
             bytes: text.as_bytes(),
         })
+    }
+
+    // Checks that each line is refused as a whole.
+    fn are_refused(rt: &impl Abort, refusal: Refusal, lines: &[(usize, &str)]) {
+        for (number, text) in lines {
+            let want = LineFault {
+                line: *number,
+                field: 0,
+                refusal,
+            };
+            assert_eq!(rt; read(*number, text).err(), Some(want), "{number}: {text}");
+        }
     }
 
     #[test]
@@ -253,59 +266,53 @@ mod tests {
 
     #[test]
     fn a_line_needs_a_letter_that_fits_its_place(rt: HostRuntime) {
-        for (number, text) in [
-            (1, ""),
-            (1, "\tj\t3\tp"),
-            (1, "h\t1"),
-            (1, "s\t1\t1"),
-            (1, "r\t1"),
-            (1, "q"),
-            (2, "j\t3\tp"),
-            (usize::MAX, "j\t3\tp"),
-            (2, ""),
-            (2, "\t1"),
-            (2, "x"),
-            (2, "Q"),
-            (2, "hh\t1"),
-            (2, "q "),
-            (2, " q"),
-            (2, "é"),
-            // The letter counts before the fields.
-            (1, "r"),
-            (2, "j"),
-            (2, "p\tx"),
-        ] {
-            let want = LineFault {
-                line: number,
-                field: 0,
-                refusal: Refusal::WrongLetter,
-            };
-            assert_eq!(rt; read(number, text).err(), Some(want), "{number}: {text}");
-        }
+        are_refused(
+            &rt,
+            Refusal::WrongLetter,
+            &[
+                (1, ""),
+                (1, "\tj\t3\tp"),
+                (1, "h\t1"),
+                (1, "s\t1\t1"),
+                (1, "r\t1"),
+                (1, "q"),
+                (2, "j\t3\tp"),
+                (usize::MAX, "j\t3\tp"),
+                (2, ""),
+                (2, "\t1"),
+                (2, "x"),
+                (2, "Q"),
+                (2, "hh\t1"),
+                (2, "q "),
+                (2, " q"),
+                (2, "é"),
+                // The letter counts before the fields.
+                (1, "r"),
+                (2, "j"),
+                (2, "p\tx"),
+            ],
+        );
     }
 
     #[test]
     fn the_fields_are_counted_before_they_are_read(rt: HostRuntime) {
-        for (number, text) in [
-            (1, "j"),
-            (1, "j\t3"),
-            (1, "j\tx"),
-            (1, "j\t3\tp\t"),
-            (1, "j\tx\ty\tz"),
-            (9, "s"),
-            (9, "r"),
-            (9, "r\t1\t"),
-            (9, "r\tx\ty"),
-            (9, "q\t"),
-            (9, "q\t1\t2"),
-        ] {
-            let want = LineFault {
-                line: number,
-                field: 0,
-                refusal: Refusal::WrongFieldCount,
-            };
-            assert_eq!(rt; read(number, text).err(), Some(want), "{number}: {text}");
-        }
+        are_refused(
+            &rt,
+            Refusal::WrongFieldCount,
+            &[
+                (1, "j"),
+                (1, "j\t3"),
+                (1, "j\tx"),
+                (1, "j\t3\tp\t"),
+                (1, "j\tx\ty\tz"),
+                (9, "s"),
+                (9, "r"),
+                (9, "r\t1\t"),
+                (9, "r\tx\ty"),
+                (9, "q\t"),
+                (9, "q\t1\t2"),
+            ],
+        );
     }
 
     #[test]

@@ -1,7 +1,8 @@
 //! Reads a line of a session.
 ghost use Rattle.std.specs.Prelude.{◌≡◌, true, false, ◌==◌, IfOk, ok_or};
 ghost use Rattle.texts.specs.Cuts.{fields, numbered};
-ghost use Rattle.texts.specs.Left.{left};
+ghost use Rattle.texts.specs.Faults.{field_fault};
+ghost use Rattle.texts.specs.Left.{left, as_numbered};
 ghost use Rattle.texts.specs.Numbers.{number};
 ghost use Rattle.texts.specs.Lines.{letter, form, line_said, job_said, soft_said, rounds_said, query_said, said_in, opens_job};
 
@@ -103,6 +104,9 @@ fn read_soft<'a>(line: usize, mut fields: Pieces<'a>) -> Result<Line<'a>, LineFa
     })
 }
 
+/// The most rounds that a line asks for.
+const MOST_ROUNDS: u64 = 65_535;
+
 /// Line r: a count.
 fn read_rounds<'a>(line: usize, mut fields: Pieces<'a>) -> Result<Line<'a>, LineFault>
     ensures says { said_in result ≡ rounds_said line (left fields.entry) }
@@ -111,7 +115,7 @@ fn read_rounds<'a>(line: usize, mut fields: Pieces<'a>) -> Result<Line<'a>, Line
     let (Some(count), None) = (fields.next(), fields.next()) else {
         return Err(LineFault::whole(line, Refusal::WrongFieldCount));
     };
-    let count = read_count(line, count, 65_535)?;
+    let count = read_count(line, count, MOST_ROUNDS)?;
     Ok(Line::Rounds { count })
 }
 
@@ -128,24 +132,18 @@ fn read_query<'a>(line: usize, mut fields: Pieces<'a>) -> Result<Line<'a>, LineF
 
 /// A number up to `most`.
 fn read_count(line: usize, field: Piece<'_>, most: u64) -> Result<u64, FieldFault>
-    ensures { result ≡ ok_or (number most field.entry.bytes.now) (record { line = line; field = field.entry.number }) }
+    ensures { result ≡ ok_or (number most field.entry.bytes.now) (field_fault line (as_numbered field.entry)) }
 {
-    read_number(field.bytes, most).ok_or(FieldFault {
-        line,
-        field: field.number,
-    })
+    read_number(field.bytes, most).ok_or(FieldFault::at(line, field))
 }
 
 /// The letter of a form of weights.
 fn read_form(line: usize, field: Piece<'_>) -> Result<WeightForm, FieldFault>
-    ensures { result ≡ ok_or (form field.entry.bytes.now) (record { line = line; field = field.entry.number }) }
+    ensures { result ≡ ok_or (form field.entry.bytes.now) (field_fault line (as_numbered field.entry)) }
 {
     match field.bytes {
         b"p" => Ok(WeightForm::Plain),
         b"l" => Ok(WeightForm::Levels),
-        _ => Err(FieldFault {
-            line,
-            field: field.number,
-        }),
+        _ => Err(FieldFault::at(line, field)),
     }
 }

@@ -27,20 +27,23 @@ impl<'a> Pieces<'a> {
     pub fn lines(text: &'a [u8]) -> Self
         ensures { left result ≡ numbered 1 (lines text.now) }
     {
-        Pieces {
-            rest: without_end(text),
-            by: b'\n',
-            number: 1,
-        }
+        Pieces::all(without_end(text), b'\n')
     }
 
     /// The fields of a line, numbered from 1.
     pub fn fields(line: &'a [u8]) -> Self
         ensures { left result ≡ numbered 1 (fields line.now) }
     {
+        Pieces::all(Some(line), b'\t')
+    }
+
+    /// The pieces of some bytes, numbered from 1.
+    fn all(bytes: Option<&'a [u8]>, by: u8) -> Self
+        ensures { left result ≡ numbered 1 (pieces_in by (option_map (λ bs. bs.now) bytes.entry)) }
+    {
         Pieces {
-            rest: Some(line),
-            by: b'\t',
+            rest: bytes,
+            by,
             number: 1,
         }
     }
