@@ -2,16 +2,19 @@
 #![tactic(auto)]
 
 use sessions::{MOST_BYTES, play};
+use std::alloc::Global;
 use std::io::{self, Read, Write};
 
 fn main(rt: HostRuntime) -> io::Result<()> {
-    let mut text = Vec::new(rt.alloc());
+    play_all(rt.alloc(), rt.stdin(), &mut rt.stdout())
+}
+
+/// Plays the text that the input gives, and writes what it prints.
+fn play_all(alloc: Global, input: impl Read + Drop, output: &mut impl Write) -> io::Result<()> {
+    let mut text = Vec::new(alloc);
     // One byte more than a text may have is enough to tell that it has too many.
-    rt.stdin()
-        .take(MOST_BYTES as u64 + 1)
-        .read_to_end(&mut text)?;
-    let output = play(rt.alloc(), &text)?;
-    rt.stdout().write_all(output.as_bytes())
+    input.take(MOST_BYTES as u64 + 1).read_to_end(&mut text)?;
+    output.write_all(play(alloc, &text)?.as_bytes())
 }
 
 #[cfg(test)]

@@ -1,17 +1,22 @@
 //! The edges of what a session takes, with output worked out by hand.
-use sessions::play;
+ghost use Rattle.std.specs.Prelude.{◌≤◌, IfOk};
+
+use super::play_all;
+use std::io::{self, ErrorKind, Read, Write};
 use std::process::Abort;
 use std::test::Fail;
 
 /// What a text prints.
-fn printed(rt: &impl AllocGlobal, text: &str) -> Result<String, Fail> {
-    play(rt.alloc(), text.as_bytes()).map_err(|_| Fail::from("no memory"))
+fn printed(rt: &impl AllocGlobal, text: &[u8]) -> Result<String, Fail> {
+    let mut output = Vec::new(rt.alloc());
+    play_all(rt.alloc(), text, &mut output).map_err(|_| Fail::from("no memory"))?;
+    String::from_utf8(output).map_err(|_| Fail::from("other bytes than text"))
 }
 
 /// Whether each text prints what stands beside it.
 fn print_so(rt: &(impl AllocGlobal + Abort), table: &[(&str, &str)]) -> Result<(), Fail> {
     for (text, output) in table {
-        let got = printed(rt, text)?;
+        let got = printed(rt, text.as_bytes())?;
         assert!(rt; got.as_str() == *output, "{text}");
     }
     Ok(())
@@ -67,7 +72,15 @@ fn a_line_names_its_first_fault(rt: HostRuntime) -> Result<(), Fail> {
             ("j\t2\tp\ns\t1,0,0\tx\n", "x\t2\t2\tt\t4\n"),
             ("j\t2\tp\ns\t1\t1\tx\n", "x\t2\t4\tt\t4\n"),
             ("j\t2\tl\ns\t1\t1\n", "x\t2\t2\tt\t4\n"),
-            // Calls.
+        ],
+    )
+}
+
+#[test]
+fn a_refused_clause_names_its_field(rt: HostRuntime) -> Result<(), Fail> {
+    print_so(
+        &rt,
+        &[
             ("j\t2\tp\nh\t1\t99999\t0\n", "x\t2\t3\tf\t9\n"),
             ("j\t2\tp\nh\t-2\t0\n", "x\t2\t3\tf\t9\n"),
             ("j\t2\tp\ns\t0\t1\t-3\n", "x\t2\t4\tf\t9\n"),
@@ -81,7 +94,7 @@ fn a_line_names_its_first_fault(rt: HostRuntime) -> Result<(), Fail> {
 #[test]
 fn bytes_that_are_no_ascii(rt: HostRuntime) -> Result<(), Fail> {
     let text = b"j\t1\tp\n\xff\nh\t\xc2\xb9\nh\t1\xff\n\0\nq\n";
-    let output = play(rt.alloc(), text).map_err(|_| "no memory")?;
+    let output = printed(&rt, text)?;
     assert!(rt;
         output.as_str()
             == "x\t2\t0\tt\t2\nx\t3\t2\tt\t4\nx\t4\t2\tt\t4\nx\t5\t0\tt\t2\nq\tunasked\t0\t-\t-\n"
@@ -125,7 +138,7 @@ fn printed_of(
         write!(text, "{line}")?;
     }
     write!(text, "{last}")?;
-    printed(rt, text.as_str())
+    printed(rt, text.as_bytes())
 }
 
 #[test]
@@ -158,7 +171,7 @@ fn limits_of_a_clause_and_of_the_tables(rt: HostRuntime) -> Result<(), Fail> {
         writeln!(text, "")?;
     }
     write!(text, "h\t1\nh\nr\t9\nq\n")?;
-    let output = printed(&rt, text.as_str())?;
+    let output = printed(&rt, text.as_bytes())?;
     assert!(rt; output.as_str() == "x\t258\t0\tf\t13\nq\tvoid\t0\t-\t-\n");
     Ok(())
 }
@@ -182,7 +195,62 @@ fn a_round_without_a_place_for_its_core_is_refused(rt: HostRuntime) -> Result<()
         }
     }
     writeln!(text, "r\t65535\nr\t1")?;
-    let output = printed(&rt, text.as_str())?;
+    let output = printed(&rt, text.as_bytes())?;
     assert!(rt; output.as_str() == "x\t806\t0\tc\t18\nx\t807\t0\tc\t18\n");
     Ok(())
+}
+
+/// Gives or takes so many bytes more, and then no longer goes on.
+#[derive(Drop)]
+struct Breaking {
+    left: usize,
+}
+
+impl Breaking {
+    /// How many of these bytes are given or taken.
+    fn moved(&mut self, len: usize) -> io::Result<usize>
+        ensures { IfOk result (λ moved. moved ≤ len) }
+    {
+        if self.left == 0 {
+            return Err(io::Error::from(ErrorKind::BrokenPipe));
+        }
+        let moved = self.left.min(len);
+        self.left -= moved;
+        Ok(moved)
+    }
+}
+
+impl Read for Breaking {
+    fn read(&mut self, buffer: &mut [u8]) -> io::Result<usize> {
+        let moved = self.moved(buffer.len())?;
+        buffer[..moved].fill(b'\n');
+        Ok(moved)
+    }
+}
+
+impl Write for Breaking {
+    fn write(&mut self, bytes: &[u8]) -> io::Result<usize> {
+        self.moved(bytes.len())
+    }
+
+    fn flush(&mut self) -> io::Result<()> {
+        Ok(())
+    }
+}
+
+#[test]
+fn a_text_that_breaks_off_prints_nothing(rt: HostRuntime) {
+    let mut output = Vec::new(rt.alloc());
+    let played = play_all(rt.alloc(), Breaking { left: 9 }, &mut output);
+    assert!(rt; played.is_err_and(|e| e.kind() == ErrorKind::BrokenPipe));
+    assert!(rt; output.is_empty());
+}
+
+#[test]
+fn an_output_that_breaks_off_is_an_error(rt: HostRuntime) {
+    // Its fault has ten bytes.
+    let text = b"\n".as_slice();
+    assert!(rt; play_all(rt.alloc(), text, &mut Breaking { left: 10 }).is_ok());
+    let played = play_all(rt.alloc(), text, &mut Breaking { left: 9 });
+    assert!(rt; played.is_err_and(|e| e.kind() == ErrorKind::BrokenPipe));
 }
