@@ -1,4 +1,4 @@
-"""What the benchmarks need: to build a program of ours, to run and time programs, and to print tables."""
+"""What the benchmarks need: to build a program of ours, to run and time programs, to read answers, and to print tables."""
 
 import argparse
 import contextlib
@@ -18,12 +18,19 @@ TIMES = 3
 LONG = 1
 
 
-def arguments(about, limit):
-    """A parser of the options that the benchmarks have, with so many seconds for each run if none are given."""
-    parser = argparse.ArgumentParser(description=about)
+def options(about, limit):
+    """A parser of the options that all scripts have, with so many seconds for each run if none are given."""
+    form = argparse.RawDescriptionHelpFormatter
+    parser = argparse.ArgumentParser(description=about, formatter_class=form)
     parser.add_argument("--limit", type=float, default=limit, help=f"seconds that each run has ({limit})")
     parser.add_argument("--family", default="", help="only the families whose names begin so")
     parser.add_argument("--each", action="store_true", help="print a line for each problem too")
+    return parser
+
+
+def arguments(about, limit):
+    """The same for the benchmarks, which need no program to be named."""
+    parser = options(about, limit)
     parser.add_argument("--program", help="a program that is built already")
     return parser
 
@@ -114,6 +121,49 @@ def best_of(words, limit, path=None):
         if again is not None and time < seconds:
             text, seconds = again, time
     return Run(text, seconds, kilobytes)
+
+
+@dataclass
+class Answer:
+    """The cheapest plan, as the set of its true literals, and what it costs; None both where no plan is allowed."""
+
+    plan: Optional[set]
+    cost: Optional[int]
+
+
+NO_PLAN = Answer(None, None)
+
+
+def plan_of(values):
+    return {place if value == "1" else -place for place, value in enumerate(values, 1)}
+
+
+def answer_of_clasp(text):
+    """What clasp says of a weighted text. Where no clause is soft, it says that there is a plan, and of no cost."""
+    if "\ns UNSATISFIABLE" in text:
+        return NO_PLAN
+    lines = text.splitlines()
+    costs = [int(line[2:]) for line in lines if line.startswith("o ")]
+    if "\ns SATISFIABLE" in text and not costs:
+        costs = [0]
+    elif "\ns OPTIMUM FOUND" not in text:
+        raise ValueError(f"clasp found no optimum:\n{text}")
+    # The plan may be told more than once; the last line that begins it has the literal of variable 1.
+    words = [line[2:].split() for line in lines if line.startswith("v ")]
+    begin = max((number for number, line in enumerate(words) if line[0] in ("1", "-1")), default=0)
+    return Answer({int(word) for line in words[begin:] for word in line} - {0}, costs[-1])
+
+
+def answer_of_toulbar2(text):
+    """What toulbar2 says of a weighted text, if it is told to print what it finds."""
+    if "No solution" in text:
+        return NO_PLAN
+    lines = text.splitlines()
+    costs = [int(line.split()[1]) for line in lines if line.startswith("Optimum: ")]
+    found = [number for number, line in enumerate(lines) if line.startswith("New solution")]
+    if not costs or not found:
+        raise ValueError(f"toulbar2 found no optimum:\n{text}")
+    return Answer(plan_of(lines[found[-1] + 1].split()), costs[-1])
 
 
 def write(path, text):

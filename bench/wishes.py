@@ -35,6 +35,18 @@ class Wishes:
         """What a plan costs, as one number."""
         return sum(amount for amount, clause in zip(self.amounts(), self.softs) if not plan.intersection(clause))
 
+    def wrong(self, answer):
+        """What is wrong with the plan of an answer; None where nothing is, or where it has none."""
+        if answer.plan is None:
+            return None
+        if {abs(literal) for literal in answer.plan} != set(range(1, self.variables + 1)):
+            return "has not a value for each variable"
+        if len(answer.plan) != self.variables or not self.is_allowed(answer.plan):
+            return "is not allowed"
+        if self.cost(answer.plan) != answer.cost:
+            return f"costs {self.cost(answer.plan)} and not {answer.cost}"
+        return None
+
 
 def line(letter, *fields):
     return "\t".join([letter, *map(str, fields)]) + "\n"
