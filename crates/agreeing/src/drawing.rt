@@ -2,7 +2,7 @@
 ghost use Rattle.std.specs.Prelude.{◌<◌};
 
 use crate::inputs::{Call, Input, Kind};
-use dice::Dice;
+use random::Dice;
 use std::alloc::{AllocError, Global};
 use terms::SoftSet;
 

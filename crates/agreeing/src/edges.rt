@@ -1,8 +1,8 @@
 //! Tests of the search at the edges of what it takes, with answers worked out by hand.
 use finders::{Answer, Finder};
-use search::Search;
+use finder_search::Search;
 use std::test::Fail;
-use tables::ClauseRecord;
+use clause_tables::ClauseRecord;
 use terms::{Part, Refusal, SoftSet};
 
 #[test]

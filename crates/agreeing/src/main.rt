@@ -11,16 +11,17 @@ mod inputs;
 mod replies;
 
 use comparing::{Comparison, Finding};
-use dice::Dice;
+use random::Dice;
 use drawing::draw_input;
 use inputs::{Call, Input, Kind};
 use itertools::Itertools;
 use replies::Tally;
-use search::Search;
+use finder_search::Search;
 use std::alloc::{AllocError, Global};
 use std::collections::BTreeMap;
 use std::io;
-use tables::{ClauseRecord, CountThrough};
+use clause_tables::ClauseRecord;
+use finder_count::CountThrough;
 
 const INPUTS: usize = 3000;
 

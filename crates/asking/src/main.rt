@@ -3,11 +3,12 @@
 
 use finders::{Answer, Finder};
 use itertools::Itertools;
-use search::Search;
-use shrinking::Shrinking;
+use finder_search::Search;
+use finder_shrinking::Shrinking;
 use std::alloc::{AllocError, Global};
 use std::io;
-use tables::{ClauseRecord, CountThrough};
+use clause_tables::ClauseRecord;
+use finder_count::CountThrough;
 use terms::{Refusal, SoftSet};
 
 // 1 is the electric pump, 2 the diesel pump, 3 the cooling circuit, 4 the fuel tank, 5 the flow meter.

@@ -5,7 +5,7 @@ use crate::enumeration::{Cost, Enumeration};
 use crate::generated::Call;
 use crate::weighing::Drawn;
 use anyhow::Result;
-use covers::CoverMaker;
+use makers::CoverMaker;
 use finders::Finder;
 use jobs::Job;
 use std::alloc::{AllocError, Global};

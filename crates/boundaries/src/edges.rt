@@ -1,14 +1,14 @@
 //! The boundary cases: what is accepted, then what is one too many, and the end of a job after both.
 use anyhow::Result;
-use branching::BranchAndBoundMaker;
-use covers::CoverMaker;
+use maker_branch::BranchAndBoundMaker;
+use makers::CoverMaker;
 use finders::Finder;
 use jobs::Job;
-use search::Search;
-use shrinking::Shrinking;
+use finder_search::Search;
+use finder_shrinking::Shrinking;
 use std::alloc::{AllocError, Global};
 use std::{fmt, io};
-use tables::ClauseRecord;
+use clause_tables::ClauseRecord;
 use terms::Refusal;
 use weights::{Levels, Plain};
 

@@ -2,7 +2,7 @@
 ghost use Rattle.std.specs.Prelude.{◌<◌, ◌≤◌};
 
 use crate::weighing::{Drawn, Spread};
-use dice::Dice;
+use random::Dice;
 use itertools::Itertools;
 use std::alloc::{AllocError, Global};
 use std::io;

@@ -13,18 +13,18 @@ mod tests;
 mod weighing;
 
 use anyhow::{Context, Result};
-use branching::BranchAndBoundMaker;
+use maker_branch::BranchAndBoundMaker;
 use comparing::Comparison;
 use counts::Counts;
-use covers::CoverMaker;
-use dice::Dice;
+use makers::CoverMaker;
+use random::Dice;
 use edges::show_edges;
 use finders::Finder;
 use generated::{Generated, draw_job};
 use jobs::Job;
-use search::Search;
-use shrinking::Shrinking;
-use tables::ClauseRecord;
+use finder_search::Search;
+use finder_shrinking::Shrinking;
+use clause_tables::ClauseRecord;
 use weighing::Drawn;
 use weights::{Levels, Plain};
 

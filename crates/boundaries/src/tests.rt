@@ -4,12 +4,12 @@ use crate::comparing::Comparison;
 use crate::counts::Counts;
 use crate::enumeration::{Cost, Enumeration};
 use crate::generated::Call;
-use branching::BranchAndBoundMaker;
+use maker_branch::BranchAndBoundMaker;
 use jobs::{Job, Status};
-use search::Search;
+use finder_search::Search;
 use std::alloc::{AllocError, Global};
 use std::test::Fail;
-use tables::ClauseRecord;
+use clause_tables::ClauseRecord;
 use weights::Plain;
 
 fn plain(amount: u128) -> Cost {

@@ -1,6 +1,6 @@
 //! Draws weights of both kinds, and reads them as costs of the second solver.
 use crate::enumeration::Cost;
-use dice::Dice;
+use random::Dice;
 use std::alloc::{AllocError, Global};
 use std::fmt;
 use weights::{Levels, Plain, WeightKind};

@@ -4,8 +4,8 @@ use crate::pairs::Pair;
 use crate::taken::Taken;
 use crate::weighing::{Drawn, Spread};
 use anyhow::{Context, Result};
-use covers::CoverMaker;
-use dice::Dice;
+use makers::CoverMaker;
+use random::Dice;
 use terms::SoftSet;
 use weights::WeightKind;
 

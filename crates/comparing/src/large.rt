@@ -2,8 +2,8 @@
 use crate::differences::Difference;
 use crate::taken::Taken;
 use anyhow::Result;
-use branching::BranchAndBoundMaker;
-use covers::CoverMaker;
+use maker_branch::BranchAndBoundMaker;
+use makers::CoverMaker;
 use std::alloc::{AllocError, Global};
 use std::fmt;
 use terms::{Part, Refusal, SoftSet};

@@ -11,11 +11,11 @@ mod taken;
 mod weighing;
 
 use anyhow::{Context, Result};
-use branching::BranchAndBoundMaker;
-use counting::CountThroughMaker;
+use maker_branch::BranchAndBoundMaker;
+use maker_count::CountThroughMaker;
 use counts::Counts;
-use covers::CoverMaker;
-use dice::Dice;
+use makers::CoverMaker;
+use random::Dice;
 use filling::{Comparison, fill};
 use itertools::Itertools;
 use large::show_large_stores;

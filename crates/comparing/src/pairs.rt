@@ -2,7 +2,7 @@
 use crate::differences::Difference;
 use crate::taken::{Costs, Taken};
 use anyhow::Result;
-use covers::CoverMaker;
+use makers::CoverMaker;
 use std::alloc::Global;
 use terms::{Refusal, SoftSet};
 

@@ -1,6 +1,6 @@
 //! The weights and the cores that were added, kept apart from the makers, and what covers have to keep to.
 use crate::differences::Difference;
-use covers::CoverMaker;
+use makers::CoverMaker;
 use std::alloc::{AllocError, Global};
 use terms::SoftSet;
 use weights::{WeightKind, cost_of};

@@ -1,7 +1,7 @@
 //! Draws weights of both kinds.
 ghost use Rattle.std.specs.Prelude.{◌≤◌};
 
-use dice::Dice;
+use random::Dice;
 use std::fmt;
 use weights::{Levels, Plain, WeightKind};
 

@@ -1,9 +1,9 @@
 //! Asks both cover makers which wishes for a pump skid are best given up, in both weight kinds.
 #![tactic(auto)]
 
-use branching::BranchAndBoundMaker;
-use counting::CountThroughMaker;
-use covers::CoverMaker;
+use maker_branch::BranchAndBoundMaker;
+use maker_count::CountThroughMaker;
+use makers::CoverMaker;
 use itertools::Itertools;
 use std::{fmt, io};
 use terms::SoftSet;

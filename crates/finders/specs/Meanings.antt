@@ -1,6 +1,7 @@
 -- What a finder means, and how an accepted clause changes that.
 use Rattle.std.specs.Prelude.{ℕ, ◌+◌, ◌-◌, ◌≤◌, Bool, true, ◌&&◌, List, [], ◌∷◌, ◌++◌, length, ℤ}
 use Rattle.terms.specs.Clauses.{satisfied_by}
+use Rattle.terms.specs.declared.limits.TheConstants.{MOST_VARIABLES, SOFT_PLACES}
 
 pub record FinderMeaning : Type 0 where
   -- the variables are 1 to n
@@ -13,9 +14,9 @@ pub record FinderMeaning : Type 0 where
   pub free_clauses : ℕ
   pub free_literals : ℕ
 
--- what holds of every finder: at most 256 variables, and at most 64 soft places, taken and free
+-- what holds of every finder: it has not too many variables, nor too many soft places, taken and free
 abbrev pub Limited : FinderMeaning → Type 0
-Limited m = (m.n ≤ 256) × (length m.softs + m.free_softs ≤ 64)
+Limited m = (m.n ≤ MOST_VARIABLES) × (length m.softs + m.free_softs ≤ SOFT_PLACES)
 
 -- no clause yet, so that every assignment is admitted
 abbrev pub fresh : ℕ → ℕ → ℕ → ℕ → FinderMeaning
@@ -28,24 +29,14 @@ fresh n soft_places clause_places literal_places = record {
   free_literals = literal_places;
 }
 
+-- the clause has taken a clause place, and as many literal places as it has literals
+abbrev pub with_taken : FinderMeaning → List ℤ → FinderMeaning
+with_taken m c = record m { free_clauses = m.free_clauses - 1; free_literals = m.free_literals - length c }
+
 -- of the admitted assignments those that satisfy the clause are left
 abbrev pub with_hard : FinderMeaning → List ℤ → FinderMeaning
-with_hard m c = record {
-  n = m.n;
-  admits = λ a. m.admits a && satisfied_by a c;
-  softs = m.softs;
-  free_softs = m.free_softs;
-  free_clauses = m.free_clauses - 1;
-  free_literals = m.free_literals - length c;
-}
+with_hard m c = record (with_taken m c) { admits = λ a. m.admits a && satisfied_by a c }
 
 -- the clause comes last among the soft ones
 abbrev pub with_soft : FinderMeaning → List ℤ → FinderMeaning
-with_soft m c = record {
-  n = m.n;
-  admits = m.admits;
-  softs = m.softs ++ c ∷ [];
-  free_softs = m.free_softs - 1;
-  free_clauses = m.free_clauses - 1;
-  free_literals = m.free_literals - length c;
-}
+with_soft m c = record (with_taken m c) { softs = m.softs ++ c ∷ []; free_softs = m.free_softs - 1 }

@@ -1,8 +1,9 @@
--- Which refusal a call to a finder gets: tests of the finder's meaning and of what is handed in, in the order that counts.
+-- Which refusal a call to a finder gets, by tests of the finder's meaning and of what is handed in.
 use Rattle.std.specs.Prelude.{ℕ, Bool, not, ◌||◌, List, [], ◌∷◌, length, take, ℤ, is_some, Option, ◌==◌, nat_lt}
 use Rattle.terms.specs.Clauses.{binary, first_bad}
 use Rattle.terms.specs.Masks.{below}
-use Rattle.terms.specs.Refusals.{earliest}
+use Rattle.terms.specs.declared.limits.TheConstants.{MOST_LITERALS}
+use Rattle.terms.specs.Earliest.{earliest}
 use Rattle.terms.specs.declared.refusals.Part.TheVariants.{Finder}
 use Rattle.terms.specs.declared.refusals.Refusal.{Refusal}
 use Rattle.terms.specs.declared.refusals.Refusal.TheVariants.{TooManyVariables, ClauseTooLong, BadLiteral, NoSoftPlace, NoClausePlace, TooShort, BadByte, UnknownSoft}
@@ -17,7 +18,7 @@ variables_refused most n = earliest ((too_many most n, TooManyVariables) ∷ [])
 
 -- ---- adding a clause
 abbrev pub too_long : List ℤ → Bool
-too_long c = nat_lt 64 (length c)
+too_long c = nat_lt MOST_LITERALS (length c)
 
 abbrev pub has_bad : ℕ → List ℤ → Bool
 has_bad n c = is_some (first_bad n c)

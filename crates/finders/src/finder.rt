@@ -1,7 +1,7 @@
 //! The trait `Finder`. Whatever stands behind it, its calls are told by its meaning alone.
 ghost use Rattle.std.specs.Prelude.{◌≡◌, length};
 ghost use Rattle.std.specs.Result.{result_err};
-ghost use Rattle.terms.specs.Refusals.{unless_refused};
+ghost use Rattle.terms.specs.Earliest.{unless_refused};
 ghost use Rattle.finders.specs.Meanings.{FinderMeaning, Limited, with_hard, with_soft};
 ghost use Rattle.finders.specs.Refused.{hard_refused, soft_refused, ask_refused, broken_refused};
 ghost use Rattle.finders.specs.Questions.{Asked, ToldBroken};

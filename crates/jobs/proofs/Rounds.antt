@@ -9,18 +9,18 @@ use Rattle.finders.specs.Questions.{Asked, Model}
 use Rattle.finders.specs.declared.finder.Answer.{Answer}
 use Rattle.finders.specs.declared.finder.Answer.TheVariants.{Model as Found, Core as Conflict}
 use Rattle.finders.proofs.Asking.{not_refused}
-use Rattle.theory.specs.States.{State, Plan, status, status_at, Ended}
-use Rattle.theory.specs.Changes.{at_floor}
-use Rattle.theory.specs.Steps.{Round, Asks, Takes, not_fresh, has_ended, none_allowed, first_model, floor_reached, model_found, core_added, core_left}
-use Rattle.theory.specs.declared.states.Status.TheVariants.{Void, Unasked, Best, Open}
-use Rattle.terms.specs.Refusals.{unless_refused}
+use Rattle.bracket.specs.States.{State, Plan, status, status_at, Ended}
+use Rattle.bracket.specs.Changes.{at_floor}
+use Rattle.bracket.specs.Steps.{Round, Asks, Takes, not_fresh, has_ended, none_allowed, first_model, floor_reached, model_found, core_added, core_left}
+use Rattle.bracket.specs.declared.states.Status.TheVariants.{Void, Unasked, Best, Open}
+use Rattle.terms.specs.Earliest.{unless_refused}
 use Rattle.jobs.specs.Answers.{after_first, answer_refused, after_answer}
 use Rattle.terms.specs.Clauses.{Assignment}
 use Rattle.terms.specs.declared.refusals.Refusal.TheVariants.{NoCorePlace}
-use Rattle.covers.specs.Refused.{core_refused}
+use Rattle.makers.specs.Refused.{core_refused}
 use Rattle.finders.specs.Questions.{Core}
-use Rattle.theory.proofs.Found.{found_is_proper, refused_is_full}
-use Rattle.theory.proofs.Statuses.{is_open}
+use Rattle.bracket.proofs.Found.{found_is_proper, refused_is_full}
+use Rattle.bracket.proofs.Statuses.{is_open}
 use Rattle.jobs.specs.Plans.{is_ceiling, admitted_by, kept_admitted_by}
 
 -- ---- where no round goes on

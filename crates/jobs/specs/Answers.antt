@@ -4,10 +4,10 @@ use Rattle.terms.specs.declared.refusals.Refusal.{Refusal}
 use Rattle.weights.specs.Kinds.{Kind}
 use Rattle.finders.specs.declared.finder.Answer.{Answer}
 use Rattle.finders.specs.declared.finder.Answer.TheVariants.{Model, Core}
-use Rattle.covers.specs.Refused.{core_refused}
-use Rattle.theory.specs.States.{State}
-use Rattle.theory.specs.Changes.{at_floor, after_model, after_core, voided}
-use Rattle.theory.specs.declared.states.Phase.TheVariants.{Quick, Exact}
+use Rattle.makers.specs.Refused.{core_refused}
+use Rattle.bracket.specs.States.{State}
+use Rattle.bracket.specs.Changes.{at_floor, after_model, after_core, voided}
+use Rattle.bracket.specs.declared.states.Phase.TheVariants.{Quick, Exact}
 
 module _ {W : Type 0} {K : Kind W} where
   -- with nothing kept, after the question for no soft clauses

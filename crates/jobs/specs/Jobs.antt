@@ -1,5 +1,5 @@
 -- What a job means.
-use Rattle.theory.specs.States.{State}
+use Rattle.bracket.specs.States.{State}
 use Rattle.jobs.specs.Plans.{plan}
 use Rattle.jobs.specs.declared.job.Job.{Job}
 

@@ -1,4 +1,3 @@
-pub mod Earlier
 pub mod Plans
 pub mod Jobs
 pub mod Answers

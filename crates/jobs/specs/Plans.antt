@@ -1,12 +1,12 @@
 -- What is kept, seen as a plan.
 use Rattle.std.specs.Prelude.{ℕ, Bool, true, false, not, List, [], ◌∷◌, ◌++◌, ◌&&◌, ◌==◌, length, take, drop, Some, None, Option, is_some, nat_lt}
 use Rattle.terms.specs.Clauses.{binary}
-use Rattle.terms.specs.Refusals.{earliest}
+use Rattle.terms.specs.Earliest.{earliest}
 use Rattle.terms.specs.declared.refusals.Refusal.{Refusal}
 use Rattle.terms.specs.declared.refusals.Refusal.TheVariants.{TooShort, NothingKept}
 use Rattle.weights.specs.Kinds.{Kind}
 use Rattle.finders.specs.Meanings.{FinderMeaning}
-use Rattle.theory.specs.States.{Plan, State, same}
+use Rattle.bracket.specs.States.{Plan, State, same}
 use Rattle.jobs.specs.declared.job.Kept.{Kept}
 
 -- the finder admits the assignment

@@ -1,19 +1,20 @@
 //! The job, its opening, and what it tells.
 ghost use Rattle.std.specs.Prelude.{◌≡◌, length, take, true, IsTrue, IfOk, None, option_map};
 ghost use Rattle.std.specs.Result.{result_err};
-ghost use Rattle.terms.specs.Refusals.{unless_refused};
-ghost use Rattle.theory.specs.States.{opened_on, status, are_fresh};
-ghost use Rattle.theory.specs.Brackets.{OpensBracket};
-ghost use Rattle.theory.specs.Changes.{priced};
+ghost use Rattle.terms.specs.Earliest.{unless_refused};
+ghost use Rattle.bracket.specs.States.{opened_on, status, are_fresh};
+ghost use Rattle.bracket.specs.Brackets.{OpensBracket};
+ghost use Rattle.bracket.specs.Changes.{priced};
 ghost use Rattle.jobs.specs.Plans.{admitted_by, kept_admitted_by, plan, copy_refused, copied_over};
 
 mod clauses;
 mod rounds;
 
-use covers::CoverMaker;
+use makers::CoverMaker;
 use finders::Finder;
 use terms::Refusal;
-use theory::{Phase, Status};
+use terms::limits::MOST_VARIABLES;
+use bracket::{Phase, Status};
 use weights::WeightKind;
 
 /// A finder and a cover maker, and what is known of the cheapest plan so far.
@@ -35,7 +36,7 @@ pub struct Job<F: Finder, C: CoverMaker> {
 /// An assignment, in the first n bytes, with its cost.
 #[derive(Clone, Copy)]
 struct Kept<W> {
-    values: [u8; 256],
+    values: [u8; MOST_VARIABLES],
     cost: W,
 }
 
@@ -116,7 +117,7 @@ impl<F: Finder, C: CoverMaker> Job<F, C> {
 
     /// What an assignment costs.
     #[tactic(auto, using(crate::proofs::Calls::cost_laws))]
-    fn cost_of(&self, values: &[u8; 256]) -> Result<C::Weight, Refusal>
+    fn cost_of(&self, values: &[u8; MOST_VARIABLES]) -> Result<C::Weight, Refusal>
         requires fresh { IsTrue self.now.fresh }
         requires admitted { IsTrue (admitted_by (state self.now).finder (take (state self.now).finder.n values.now)) }
         ensures refusal { result_err result ≡ None }

@@ -1,8 +1,7 @@
 //! The job: it plays a finder against a cover maker until the cheapest plan is known.
 #![tactic(auto)]
 
-mod earlier;
 mod job;
 
 pub use job::{Bracket, Job};
-pub use theory::Status;
+pub use bracket::Status;

@@ -2,16 +2,17 @@
 //! and the bracket.
 #![tactic(auto)]
 
-use branching::BranchAndBoundMaker;
-use counting::CountThroughMaker;
-use covers::CoverMaker;
+use maker_branch::BranchAndBoundMaker;
+use maker_count::CountThroughMaker;
+use makers::CoverMaker;
 use finders::Finder;
 use itertools::Itertools;
 use jobs::Job;
-use search::Search;
-use shrinking::Shrinking;
+use finder_search::Search;
+use finder_shrinking::Shrinking;
 use std::{fmt, io};
-use tables::{ClauseRecord, CountThrough};
+use clause_tables::ClauseRecord;
+use finder_count::CountThrough;
 use terms::Refusal;
 use weights::{Levels, Plain, WeightKind};
 

@@ -14,9 +14,9 @@ use Rattle.texts.specs.Lines.{Field, Said, hard as hard_line, soft as soft_line,
 use Rattle.texts.specs.declared.faults.FieldFault.{FieldFault}
 use Rattle.texts.specs.declared.faults.LineFault.{LineFault}
 use Rattle.texts.specs.declared.weight_form.WeightForm.{WeightForm}
-use Rattle.theory.specs.Logs.{line}
-use Rattle.theory.specs.States.{State}
-use Rattle.theory.specs.Steps.{Call, hard, soft, round}
+use Rattle.bracket.specs.Logs.{line}
+use Rattle.bracket.specs.States.{State}
+use Rattle.bracket.specs.Steps.{Call, hard, soft, round}
 use Rattle.weights.specs.Kinds.{Kind}
 
 -- what is printed of the fault at the end of a line

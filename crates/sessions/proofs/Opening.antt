@@ -3,7 +3,7 @@ use Rattle.std.proofs.Common.{◌≡◌, ℕ, ◌+◌, ◌<◌, true, false, Lis
 use Rattle.std.proofs.lemmas.Bool.{both_ways}
 use Rattle.std.proofs.lemmas.Bool.Decides.{nat_tests}
 use Rattle.std.proofs.lemmas.List.Elements.{All-cons}
-use Rattle.covers.specs.Meanings.{MakerMeaning, fresh}
+use Rattle.makers.specs.Meanings.{MakerMeaning, fresh}
 use Rattle.finders.specs.Meanings.{FinderMeaning}
 use Rattle.sessions.specs.Outputs.{finder, Opened}
 use Rattle.sessions.specs.Sessions.{TextLine, Later, Session}

@@ -1,7 +1,7 @@
 -- Lines that are played one after another.
 use Rattle.std.proofs.Common.{◌≡◌, ℕ, true, List, [], ◌∷◌, ◌++◌, All, Ok, Err, Result, refl, sym, subst, ◌∙◌, append_assoc, append-nil}
 use Rattle.std.proofs.lemmas.List.Elements.{All-rest}
-use Rattle.covers.specs.Meanings.{MakerMeaning}
+use Rattle.makers.specs.Meanings.{MakerMeaning}
 use Rattle.finders.specs.Meanings.{FinderMeaning}
 use Rattle.sessions.specs.Sessions.{TextLine, Later, Lines, none, one_more, Session}
 use Rattle.sessions.specs.Texts.{printed}
@@ -9,9 +9,9 @@ use Rattle.sessions.specs.Workers.{Answered, FaultPrinted, LinePlayed}
 use Rattle.sessions.specs.declared.faults.SessionFault.{SessionFault}
 use Rattle.sessions.specs.declared.faults.SessionFault.TheVariants.{Memory, Line}
 use Rattle.texts.specs.declared.weight_form.WeightForm.{WeightForm}
-use Rattle.theory.specs.Brackets.{BracketStands, OpensBracket}
-use Rattle.theory.specs.Logs.{Log, Logged}
-use Rattle.theory.specs.States.{State, opened_on, are_fresh}
+use Rattle.bracket.specs.Brackets.{BracketStands, OpensBracket}
+use Rattle.bracket.specs.Logs.{Log, Logged}
+use Rattle.bracket.specs.States.{State, opened_on, are_fresh}
 use Rattle.weights.specs.Kinds.{Kind}
 
 -- the fault at the end of a line belongs to what the line prints

@@ -5,10 +5,10 @@ use Rattle.terms.specs.declared.refusals.Refusal.{Refusal}
 use Rattle.sessions.specs.Sessions.{Rounds, none, one_more, all_played, has_ended, refused}
 use Rattle.sessions.specs.Workers.{Continues, Called, PlayedRounds, call_result}
 use Rattle.texts.specs.declared.faults.LineFault.{LineFault}
-use Rattle.theory.specs.Brackets.{KeepsBracket}
-use Rattle.theory.specs.Logs.{Log, line}
-use Rattle.theory.specs.States.{State, Ended}
-use Rattle.theory.specs.Steps.{Call, round, Step}
+use Rattle.bracket.specs.Brackets.{KeepsBracket}
+use Rattle.bracket.specs.Logs.{Log, line}
+use Rattle.bracket.specs.States.{State, Ended}
+use Rattle.bracket.specs.Steps.{Call, round, Step}
 use Rattle.weights.specs.Kinds.{Kind}
 
 pub fails : {E : Type 0} (b : Bool) → (IsTrue b ↔ E) → IsFalse b → E → ⊥

@@ -5,7 +5,7 @@ use Rattle.texts.specs.Numbers.{literal}
 use Rattle.texts.specs.Weights.{weight_numbers}
 use Rattle.texts.specs.declared.faults.LineFault.{LineFault}
 use Rattle.texts.specs.declared.weight_form.WeightForm.{WeightForm}
-use Rattle.theory.specs.Steps.{Call, hard, soft}
+use Rattle.bracket.specs.Steps.{Call, hard, soft}
 use Rattle.weights.specs.Kinds.{Kind}
 
 -- a call, a number of rounds at most, or the printing of the state

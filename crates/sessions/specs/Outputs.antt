@@ -1,7 +1,7 @@
 -- What a session text prints.
 use Rattle.std.specs.Prelude.{◌≡◌, ℕ, Bool, true, false, if◌then◌else◌, List, [], ◌∷◌, length, Ok, Err, Result, nat_lt}
 use Rattle.terms.specs.declared.refusals.Refusal.TheVariants.{TextTooLong, TooManyVariables}
-use Rattle.covers.specs.Meanings.{fresh as fresh_maker}
+use Rattle.makers.specs.Meanings.{fresh as fresh_maker}
 use Rattle.finders.specs.Meanings.{FinderMeaning, fresh as fresh_finder}
 use Rattle.sessions.specs.Sessions.{TextLine, Session}
 use Rattle.sessions.specs.Texts.{printed}

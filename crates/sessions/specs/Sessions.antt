@@ -1,7 +1,7 @@
 -- A session: the lines of a text, the log of the job's calls that they make, and what is printed.
 use Rattle.std.specs.Prelude.{◌≡◌, ℕ, suc, false, ◌==◌, ◌≤◌, ◌<◌, List, [], ◌∷◌, ◌++◌, Some, None, Option, Ok, Err, Result}
 use Rattle.terms.specs.declared.refusals.Refusal.{Refusal}
-use Rattle.covers.specs.Meanings.{MakerMeaning}
+use Rattle.makers.specs.Meanings.{MakerMeaning}
 use Rattle.finders.specs.Meanings.{FinderMeaning}
 use Rattle.sessions.specs.Instructions.{Instruction, calls, rounds, shows, Instructs}
 use Rattle.sessions.specs.Texts.{state_text, printed, call_text}
@@ -9,10 +9,10 @@ use Rattle.texts.specs.Cuts.{fields, numbered}
 use Rattle.texts.specs.Lines.{line_said}
 use Rattle.texts.specs.declared.faults.LineFault.{LineFault}
 use Rattle.texts.specs.declared.weight_form.WeightForm.{WeightForm}
-use Rattle.theory.specs.Brackets.{BracketStands}
-use Rattle.theory.specs.Logs.{Log, line, Logged}
-use Rattle.theory.specs.States.{State, opened_on, Ended}
-use Rattle.theory.specs.Steps.{Call, round, Step}
+use Rattle.bracket.specs.Brackets.{BracketStands}
+use Rattle.bracket.specs.Logs.{Log, line, Logged}
+use Rattle.bracket.specs.States.{State, opened_on, Ended}
+use Rattle.bracket.specs.Steps.{Call, round, Step}
 use Rattle.weights.specs.Kinds.{Kind}
 
 -- a line of a text, with its number

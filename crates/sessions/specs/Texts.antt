@@ -8,9 +8,9 @@ use Rattle.texts.specs.Faults.{fault_text}
 use Rattle.texts.specs.Weights.{weight_text}
 use Rattle.texts.specs.declared.faults.LineFault.{LineFault}
 use Rattle.texts.specs.declared.weight_form.WeightForm.{WeightForm}
-use Rattle.theory.specs.States.{State, Plan, status}
-use Rattle.theory.specs.Statuses.{name_of}
-use Rattle.theory.specs.Steps.{Call, hard, soft, round}
+use Rattle.bracket.specs.States.{State, Plan, status}
+use Rattle.bracket.specs.Statuses.{name_of}
+use Rattle.bracket.specs.Steps.{Call, hard, soft, round}
 use Rattle.weights.specs.Kinds.{Kind}
 
 -- a line ends with byte 10

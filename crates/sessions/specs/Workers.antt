@@ -12,10 +12,10 @@ use Rattle.texts.specs.Lines.{Field, line_said}
 use Rattle.texts.specs.declared.faults.FieldFault.{FieldFault}
 use Rattle.texts.specs.declared.faults.LineFault.{LineFault}
 use Rattle.texts.specs.declared.weight_form.WeightForm.{WeightForm}
-use Rattle.theory.specs.Brackets.{BracketStands, KeepsBracket}
-use Rattle.theory.specs.Logs.{Log, Logged}
-use Rattle.theory.specs.States.{State}
-use Rattle.theory.specs.Steps.{Call, round, Step}
+use Rattle.bracket.specs.Brackets.{BracketStands, KeepsBracket}
+use Rattle.bracket.specs.Logs.{Log, Logged}
+use Rattle.bracket.specs.States.{State}
+use Rattle.bracket.specs.Steps.{Call, round, Step}
 use Rattle.weights.specs.Kinds.{Kind}
 
 -- ---- reading

@@ -1,13 +1,13 @@
 //! Makes the calls that the lines of a session ask for.
 ghost use Rattle.std.specs.Prelude.{◌≡◌, ◌≤◌, ◌↔◌, IsTrue};
 ghost use Rattle.terms.specs.Clauses.{first_bad};
-ghost use Rattle.theory.specs.States.{Ended};
-ghost use Rattle.theory.specs.Steps.{hard as hard_call, soft as soft_call, round as round_call};
+ghost use Rattle.bracket.specs.States.{Ended};
+ghost use Rattle.bracket.specs.Steps.{hard as hard_call, soft as soft_call, round as round_call};
 ghost use Rattle.jobs.specs.Jobs.{state};
 ghost use Rattle.sessions.specs.Texts.{clause_field};
 ghost use Rattle.sessions.specs.Workers.{Called, PlayedRounds};
 
-use covers::CoverMaker;
+use makers::CoverMaker;
 use finders::Finder;
 use jobs::{Job, Status};
 use terms::{Refusal, first_bad_literal};

@@ -3,14 +3,14 @@ ghost use Rattle.std.specs.Prelude.{◌≡◌, true, All, IfOk, string_bytes};
 ghost use Rattle.jobs.specs.Jobs.{state};
 ghost use Rattle.sessions.specs.Sessions.{Later, Session};
 ghost use Rattle.sessions.specs.Workers.{Answered, LinePlayed, FaultPrinted};
-ghost use Rattle.theory.specs.States.{are_fresh};
+ghost use Rattle.bracket.specs.States.{are_fresh};
 ghost use Rattle.texts.specs.Left.{left, as_numbered};
 
 use crate::calls::{add_hard, add_soft, play_rounds};
 use crate::faults::SessionFault;
 use crate::printing::show;
 use crate::reading::{read_clause, read_weight};
-use covers::CoverMaker;
+use makers::CoverMaker;
 use finders::Finder;
 use jobs::Job;
 use std::alloc::{AllocError, Global};

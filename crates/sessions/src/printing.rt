@@ -4,7 +4,7 @@ ghost use Rattle.jobs.specs.Jobs.{state};
 ghost use Rattle.sessions.specs.Texts.{state_text, plan_text, ceiling_text};
 ghost use Rattle.texts.specs.Weights.{weight_text};
 
-use covers::CoverMaker;
+use makers::CoverMaker;
 use finders::Finder;
 use jobs::Job;
 use std::alloc::{AllocError, Global};

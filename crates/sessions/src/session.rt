@@ -2,16 +2,16 @@
 ghost use Rattle.std.specs.Prelude.{◌≡◌, ◌≤◌, IfOk, MatchResult, All, nat_lt, string_bytes, length};
 ghost use Rattle.sessions.specs.Outputs.{Prints, PrintsFault, most_bytes, Opened, variables_checked, clause_places, literal_places, finder};
 ghost use Rattle.sessions.specs.Sessions.{Later};
-ghost use Rattle.search.specs.Finder.{finder_meaning};
+ghost use Rattle.finder_search.specs.Finder.{finder_meaning};
 ghost use Rattle.texts.specs.Left.{left};
 
 use crate::faults::SessionFault;
 use crate::playing::play_lines;
-use branching::BranchAndBoundMaker;
-use search::Search;
-use shrinking::Shrinking;
+use maker_branch::BranchAndBoundMaker;
+use finder_search::Search;
+use finder_shrinking::Shrinking;
 use std::alloc::{AllocError, Global};
-use tables::ClauseRecord;
+use clause_tables::ClauseRecord;
 use terms::Refusal;
 use texts::{Line, LineFault, Pieces, WeightForm, read_line};
 use weights::{Levels, Plain};

@@ -3,6 +3,7 @@ use Rattle.std.proofs.Common.{◌≡◌, ℕ, ◌≤◌, Bool, true, false, cond
 use Rattle.std.specs.List.{prefix_len}
 use Rattle.std.proofs.lemmas.List.Sums.{prefix_len_passes}
 use Rattle.std.proofs.lemmas.Bool.{lt-ltb, ltb-true, both_ways, ltb-false, not-true}
+use Rattle.terms.specs.declared.limits.TheConstants.{SOFT_PLACES}
 use Rattle.terms.specs.Sets.{fits}
 use Rattle.terms.specs.Clauses.{satisfied_by, bad_literal, first_bad, FirstBad, breaks}
 
@@ -18,9 +19,9 @@ all_good n c e k l =
     not-true (bad_literal n (get_or c k (pos 0))) (prefix_len_passes good c k (pos 0) (omega arith))
 
 -- ---- broken clauses
--- with at most 64 clauses each broken one has a number that fits
-pub all_fit : (a : List ℕ) (cs : List (List ℤ)) (k : ℕ) → length cs ≤ 64 → (breaks a cs k && fits k) ≡ breaks a cs k
-all_fit a cs k h = within (ltb k (length cs)) (fits k) (not (satisfied_by a (get_or cs k []))) (λ e. lt-ltb k 64 (omega (arith, ltb-true k (length cs) e)))
+-- with no more soft clauses than there are places for, each broken one has a number that fits
+pub all_fit : (a : List ℕ) (cs : List (List ℤ)) (k : ℕ) → length cs ≤ SOFT_PLACES → (breaks a cs k && fits k) ≡ breaks a cs k
+all_fit a cs k h = within (ltb k (length cs)) (fits k) (not (satisfied_by a (get_or cs k []))) (λ e. lt-ltb k SOFT_PLACES (omega (arith, ltb-true k (length cs) e)))
   where
     within : (x f b : Bool) → (x ≡ true → f ≡ true) → ((x && b) && f) ≡ (x && b)
     within false f b g = refl

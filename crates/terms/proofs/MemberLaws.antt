@@ -6,6 +6,7 @@ use Rattle.std.proofs.lemmas.List.Elements.{All-filter}
 use Rattle.std.proofs.lemmas.List.FromFn.{length-range_with_len, get_or-range_with_len}
 use Rattle.std.proofs.lemmas.List.Sums.{length-filter, count_by-le-length}
 use Rattle.terms.specs.Masks.{member}
+use Rattle.terms.specs.declared.limits.TheConstants.{SOFT_PLACES}
 use Rattle.terms.proofs.MaskLaws.{member_past}
 use Rattle.terms.specs.Sets.{members_of}
 
@@ -16,7 +17,7 @@ module _ (m : ℕ) where
 
   pub members_of_none : ((k : ℕ) → member m k ≡ false) → members_of m ≡ []
   unfolding members_of
-  members_of_none = none_listed 0 64
+  members_of_none = none_listed 0 SOFT_PLACES
 
   -- r is m without t
   module _ (r t : ℕ) (without : (k : ℕ) → member r k ≡ (member m k && not (eqb t k))) where
@@ -30,9 +31,9 @@ module _ (m : ℕ) where
       listed_from a zero from within = absurd (omega arith)
       listed_from a (suc n) from within = grind (arith, nat_tests, without a, least a, listed_past (a + 1) n, listed_from (a + 1) n)
 
-      pub members_of_least : t < 64 → members_of m ≡ t ∷ members_of r
+      pub members_of_least : t < SOFT_PLACES → members_of m ≡ t ∷ members_of r
       unfolding members_of
-      members_of_least = listed_from 0 64 (omega arith)
+      members_of_least = listed_from 0 SOFT_PLACES (omega arith)
 
 -- ---- all of them
 module _ (p : ℕ → Bool) (k : ℕ) where
@@ -40,9 +41,9 @@ module _ (p : ℕ → Bool) (k : ℕ) where
   listed_only a zero = grind (arith, nat_tests)
   listed_only a (suc n) = grind (arith, nat_tests, listed_only (a + 1) n)
 
-pub members_of_all : (m k : ℕ) → m < 2 ^ 64 → member m k ≡ list_any (λ j. eqb j k) (members_of m)
+pub members_of_all : (m k : ℕ) → m < 2 ^ SOFT_PLACES → member m k ≡ list_any (λ j. eqb j k) (members_of m)
 unfolding members_of
-members_of_all m k l = grind (arith, nat_tests, listed_only (member m) k 0 64, member_past 64 m k)
+members_of_all m k l = grind (arith, nat_tests, listed_only (member m) k 0 SOFT_PLACES, member_past SOFT_PLACES m k)
 
 -- ---- how great, and how many
 module _ (m n : ℕ) where
@@ -52,12 +53,12 @@ module _ (m n : ℕ) where
   listed_length : length (filter (member m) (range_with_len 0 n)) ≤ n
   listed_length = omega (arith, length-filter (member m), count_by-le-length (member m), length-range_with_len 0 n)
 
-pub members_of_fit : (m : ℕ) → All (λ k. k < 64) (members_of m)
+pub members_of_fit : (m : ℕ) → All (λ k. k < SOFT_PLACES) (members_of m)
 unfolding members_of
-members_of_fit m = listed_fit m 64
+members_of_fit m = listed_fit m SOFT_PLACES
 
-pub length-members_of : (m : ℕ) → length (members_of m) ≤ 64
+pub length-members_of : (m : ℕ) → length (members_of m) ≤ SOFT_PLACES
 unfolding members_of
-length-members_of m = listed_length m 64
+length-members_of m = listed_length m SOFT_PLACES
 
 pub ruleset listed_laws = (members_of_all, members_of_fit, length-members_of)

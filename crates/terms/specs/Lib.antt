@@ -1,4 +1,5 @@
 pub mod Clauses
+pub mod Earliest
 pub mod Masks
 pub mod Refusals
 pub mod Sets

@@ -1,4 +1,4 @@
--- The number of each refusal, its layer, and the layers' letters; which refusal a call gets, and what it leaves.
+-- The number of each refusal, its layer, and the layers' letters.
 use Rattle.std.specs.Prelude.{ℕ, Bool, if◌then◌else◌, List, [], ◌∷◌, Some, None, Option}
 use Rattle.terms.specs.declared.refusals.Layer.{Layer}
 use Rattle.terms.specs.declared.refusals.Layer.TheVariants.{Text, Job, Finder, CoverMaker}
@@ -61,14 +61,3 @@ letter_of Text = 116
 letter_of Job = 106
 letter_of Finder = 102
 letter_of CoverMaker = 99
-
--- ---- which refusal a call gets
--- the refusal of the earliest test that is met, with the tests in the order in which they count
-abbrev pub earliest : List (Bool × Refusal) → Option Refusal
-earliest [] = None
-earliest (t ∷ ts) = if t.0 then Some t.1 else earliest ts
-
--- what a call leaves: what it should change where it is accepted, all as it was where it is refused
-abbrev pub unless_refused : {A : Type 0} → Option Refusal → A → A → A
-unless_refused None changed same = changed
-unless_refused (Some r) changed same = same

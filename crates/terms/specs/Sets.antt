@@ -2,14 +2,12 @@
 use Rattle.std.specs.Prelude.{ℕ, Bool, List, nat_lt}
 use Rattle.std.specs.List.{filter, range_with_len}
 use Rattle.terms.specs.Masks.{member}
+use Rattle.terms.specs.declared.limits.TheConstants.{SOFT_PLACES}
 
--- those below 64
-abbrev pub capacity : ℕ
-capacity = 64
-
+-- those that a soft clause can have
 abbrev pub fits : ℕ → Bool
-fits k = nat_lt k capacity
+fits k = nat_lt k SOFT_PLACES
 
 -- the members, lowest first
 unfoldable pub members_of : ℕ → List ℕ
-members_of m = filter (member m) (range_with_len 0 capacity)
+members_of m = filter (member m) (range_with_len 0 SOFT_PLACES)

@@ -2,11 +2,12 @@
 #![tactic(auto)]
 
 mod clauses;
+pub mod limits;
 mod refusals;
 mod soft_sets;
 
 pub use clauses::{first_bad_literal, is_binary, satisfies};
-pub use refusals::{Layer, Part, Refusal};
+pub use refusals::{Layer, Part, Refusal, earlier};
 pub use soft_sets::{Members, SoftSet};
 
 #[cfg(test)]

@@ -1,9 +1,10 @@
 //! What a call can be refused for, with the number and the layer of each refusal.
 ghost use Rattle.std.specs.Prelude.{◌≡◌};
+ghost use Rattle.terms.specs.Earliest.{earlier};
 ghost use Rattle.terms.specs.Refusals.{number_of, layer_of, letter_of};
 
 /// A part of a job that can run out of soft places.
-#[derive(Clone, Copy, PartialEq, Eq, Debug)]
+#[derive(Clone, Copy, PartialEq, Eq, PartialOrd, Ord, Debug)]
 pub enum Part {
     Finder,
     CoverMaker,
@@ -29,9 +30,9 @@ impl Layer {
 
 /// Why a call was refused. The cases stand in the order in which they are checked:
 /// a call that meets several is refused for the earliest.
-#[derive(Clone, Copy, PartialEq, Eq, Debug)]
+#[derive(Clone, Copy, PartialEq, Eq, PartialOrd, Ord, Debug)]
 pub enum Refusal {
-    /// 1, text: a session text of more than 65,536 bytes.
+    /// 1, text: a session text that is too long.
     TextTooLong,
     /// 2, text: a line without a known letter in front, or with j anywhere but on the first line, which needs it.
     WrongLetter,
@@ -45,7 +46,7 @@ pub enum Refusal {
     NotFresh,
     /// 7, job: a round after the job has ended, at best or void.
     Finished,
-    /// 8, finder: more than 64 literals in a clause.
+    /// 8, finder: more literals in a clause than it may have.
     ClauseTooLong,
     /// 9, finder: the literal 0, or one of a variable above n.
     BadLiteral,
@@ -65,7 +66,7 @@ pub enum Refusal {
     UnknownSoft,
     /// 17: a core without members.
     EmptyCore,
-    /// 18, cover maker: no place for a core, as 512 others have to stay.
+    /// 18, cover maker: no place for a core, as too many others have to stay.
     NoCorePlace,
     /// 19: no assignment in hand.
     NothingKept,
@@ -117,5 +118,15 @@ impl Refusal {
             Refusal::TooShort | Refusal::BadByte | Refusal::UnknownSoft => None,
             Refusal::EmptyCore | Refusal::NothingKept => None,
         }
+    }
+}
+
+/// The earlier of two refusals.
+pub fn earlier(first: Option<Refusal>, other: Option<Refusal>) -> Option<Refusal>
+    ensures { result ≡ earlier first other }
+{
+    match (first, other) {
+        (Some(one), Some(two)) => Some(one.min(two)),
+        _ => first.or(other),
     }
 }

@@ -5,11 +5,12 @@ ghost use Rattle.std.specs.Prelude.{◌≡◌, ◌↔◌, ℕ, ◌-◌, ◌^◌,
 ghost use Rattle.std.specs.Iterator.{YieldsFirst, item_count};
 ghost use Rattle.std.specs.List.{list_any};
 ghost use Rattle.terms.specs.Masks.{member, Subset, Intersect, Below, subset, intersect, below, size};
-ghost use Rattle.terms.specs.Sets.{capacity, fits, members_of};
+ghost use Rattle.terms.specs.Sets.{fits, members_of};
 
+use crate::limits::SOFT_PLACES;
 use std::marker::Model;
 
-/// A set of soft numbers, each below 64.
+/// A set of soft numbers, each below `SOFT_PLACES`.
 #[derive(Clone, Copy, PartialEq, Eq, Debug)]
 pub struct SoftSet {
     bits: u64,
@@ -26,9 +27,6 @@ impl Model for SoftSet {
 }
 
 impl SoftSet {
-    /// Each member of a set is below this number.
-    pub const CAPACITY: usize = 64;
-
     pub fn empty() -> SoftSet
         ensures value { result ≡ 0 }
         ensures members { (k : ℕ) → member result k ≡ false }
@@ -36,7 +34,7 @@ impl SoftSet {
         SoftSet { bits: 0 }
     }
 
-    /// The set of these numbers, of which those from 64 on are left out.
+    /// The set of these numbers, of which those that are too great are left out.
     pub fn of(numbers: &[usize]) -> SoftSet
         ensures { (k : ℕ) → member result k ≡ (list_any (λ number. number == k) numbers.now && fits k) }
     {
@@ -54,12 +52,12 @@ impl SoftSet {
         SoftSet { bits: mask }
     }
 
-    /// The numbers below `s`, all 64 where `s` is more.
+    /// The numbers below `s`, all of them where `s` is more.
     pub fn full(s: usize) -> SoftSet
-        ensures value { result ≡ 2 ^ min s capacity - 1 }
+        ensures value { result ≡ 2 ^ min s SOFT_PLACES - 1 }
         ensures members { (k : ℕ) → member result k ≡ (nat_lt k s && fits k) }
     {
-        if s < SoftSet::CAPACITY {
+        if s < SOFT_PLACES {
             SoftSet { bits: (1 << s) - 1 }
         } else {
             SoftSet { bits: u64::MAX }
@@ -69,10 +67,10 @@ impl SoftSet {
     pub fn has(self, number: usize) -> bool
         ensures { result ≡ member self number }
     {
-        number < SoftSet::CAPACITY && (self.bits >> number) % 2 == 1
+        number < SOFT_PLACES && (self.bits >> number) % 2 == 1
     }
 
-    /// The set with `number` in it; a number from 64 on changes nothing.
+    /// The set with `number` in it; a number that is too great changes nothing.
     pub fn insert(self, number: usize) -> SoftSet
         ensures { (k : ℕ) → member result k ≡ (member self k || (number == k && fits k)) }
     {
@@ -125,7 +123,7 @@ impl SoftSet {
         ensures value { result ≡ below s self }
         ensures members { IsTrue result ↔ Below s self }
     {
-        s >= SoftSet::CAPACITY || self.bits >> s == 0
+        s >= SOFT_PLACES || self.bits >> s == 0
     }
 
     pub fn intersects(self, other: SoftSet) -> bool
@@ -137,7 +135,7 @@ impl SoftSet {
 
     /// How many numbers the set has.
     pub fn len(self) -> usize
-        ensures { result ≡ size capacity self }
+        ensures { result ≡ size SOFT_PLACES self }
     {
         self.bits.count_ones() as usize
     }
@@ -145,7 +143,7 @@ impl SoftSet {
     /// The lowest member.
     pub fn first(self) -> Option<usize>
         ensures none { IsNone result ↔ ((k : ℕ) → member self k ≡ false) }
-        ensures fits { IfSome result (λ number. number < capacity) }
+        ensures fits { IfSome result (λ number. number < SOFT_PLACES) }
         ensures member { IfSome result (λ number. member self number ≡ true) }
         ensures least { IfSome result (λ number. (k : ℕ) → member self k ≡ true → number ≤ k) }
     {
@@ -161,8 +159,8 @@ impl SoftSet {
     pub fn members(self) -> Members
         ensures value { result ≡ members_of self }
         ensures all { (k : ℕ) → member self k ≡ list_any (λ number. number == k) result }
-        ensures fits { All (λ k. k < capacity) result }
-        ensures len { length result ≤ capacity }
+        ensures fits { All (λ k. k < SOFT_PLACES) result }
+        ensures len { length result ≤ SOFT_PLACES }
     {
         Members { set: self }
     }
@@ -197,11 +195,11 @@ impl Iterator for Members {
     }
 }
 
-/// The word in which the one number is a member, and none where it is 64 or more.
+/// The word in which the one number is a member, and none where it is too great.
 fn digit(number: usize) -> u64
     ensures { (k : ℕ) → member result k ≡ (number == k && fits k) }
 {
-    if number < SoftSet::CAPACITY {
+    if number < SOFT_PLACES {
         1 << number
     } else {
         0

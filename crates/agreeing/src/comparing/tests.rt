@@ -1,7 +1,8 @@
 //! Two finders that differ, or that hold other clauses than were accepted: each call that shows it is found.
 use super::*;
 use std::test::Fail;
-use tables::{ClauseRecord, CountThrough};
+use clause_tables::ClauseRecord;
+use finder_count::CountThrough;
 
 /// A number of variables, and clauses.
 #[derive(Clone, Copy)]

@@ -1,17 +1,16 @@
 //! How a job takes clauses.
 ghost use Rattle.std.specs.Prelude.{◌≡◌, length, IsTrue, IfOk, None, if◌then◌else◌};
 ghost use Rattle.std.specs.Result.{result_err};
-ghost use Rattle.theory.specs.Brackets.{KeepsBracket};
-ghost use Rattle.theory.specs.Changes.{unbroken, repriced};
-ghost use Rattle.theory.specs.Steps.{Step, hard as hard_call, soft as soft_call};
+ghost use Rattle.bracket.specs.Brackets.{KeepsBracket};
+ghost use Rattle.bracket.specs.Changes.{unbroken, repriced};
+ghost use Rattle.bracket.specs.Steps.{Step, hard as hard_call, soft as soft_call};
 ghost use Rattle.jobs.specs.Plans.{kept_admitted_by, plan};
 
 use super::{Job, Kept};
-use crate::earlier::earlier;
-use covers::CoverMaker;
+use makers::CoverMaker;
 use finders::Finder;
-use terms::{Refusal, satisfies};
-use theory::Phase;
+use terms::{Refusal, earlier, satisfies};
+use bracket::Phase;
 
 impl<F: Finder, C: CoverMaker> Job<F, C> {
     ghost use Rattle.jobs.specs.Jobs.{state};
@@ -59,7 +58,6 @@ impl<F: Finder, C: CoverMaker> Job<F, C> {
     }
 
     /// What `soft` does: both parts get something, or neither.
-    #[tactic(auto, using(crate::proofs::Calls::merged))]
     fn take_soft(&mut self, weight: C::Weight, clause: &[i32]) -> Result<usize, Refusal>
         ensures step { Step (state self.old) (soft_call weight clause.now) (result_err result) (state self.new) }
         ensures number { IfOk result (λ k. k ≡ length (state self.old).finder.softs) }

@@ -1,12 +1,12 @@
 //! How a job plays rounds.
 ghost use Rattle.std.specs.Prelude.{◌≡◌, length, take, true, IsTrue, IfOk, None};
 ghost use Rattle.std.specs.Result.{result_err};
-ghost use Rattle.terms.specs.Refusals.{unless_refused};
-ghost use Rattle.theory.specs.States.{status};
-ghost use Rattle.theory.specs.Brackets.{KeepsBracket};
-ghost use Rattle.theory.specs.Changes.{after_model};
-ghost use Rattle.theory.specs.Steps.{Step, Round, Takes, Outside, Asks, round as round_call};
-ghost use Rattle.theory.specs.declared.states.Status.TheVariants.{Open, Unasked};
+ghost use Rattle.terms.specs.Earliest.{unless_refused};
+ghost use Rattle.bracket.specs.States.{status};
+ghost use Rattle.bracket.specs.Brackets.{KeepsBracket};
+ghost use Rattle.bracket.specs.Changes.{after_model};
+ghost use Rattle.bracket.specs.Steps.{Step, Round, Takes, Outside, Asks, round as round_call};
+ghost use Rattle.bracket.specs.declared.states.Status.TheVariants.{Open, Unasked};
 ghost use Rattle.finders.specs.Questions.{Asked};
 ghost use Rattle.finders.specs.declared.finder.Answer.TheVariants.{Model};
 ghost use Rattle.terms.specs.Masks.{Below};
@@ -14,10 +14,11 @@ ghost use Rattle.jobs.specs.Answers.{after_first, answer_refused, after_answer};
 ghost use Rattle.jobs.specs.Plans.{admitted_by, plan, is_ceiling};
 
 use super::{Job, Kept};
-use covers::CoverMaker;
+use makers::CoverMaker;
 use finders::{Answer, Finder};
+use terms::limits::MOST_VARIABLES;
 use terms::{Refusal, SoftSet};
-use theory::{Phase, Status};
+use bracket::{Phase, Status};
 
 impl<F: Finder, C: CoverMaker> Job<F, C> {
     ghost use Rattle.jobs.specs.Jobs.{state};
@@ -52,13 +53,13 @@ impl<F: Finder, C: CoverMaker> Job<F, C> {
         requires unasked { status (state self.old) ≡ Unasked }
         ensures { Round (state self.old) (result_err result) (state self.new) }
     {
-        let mut values = [0u8; 256];
+        let mut values = [0; MOST_VARIABLES];
         let answer = self.ask(SoftSet::empty(), &mut values)?;
         self.begin(answer, values)
     }
 
     /// Keeps the first model, or finds that there is none.
-    fn begin(&mut self, answer: Answer, values: [u8; 256]) -> Result<(), Refusal>
+    fn begin(&mut self, answer: Answer, values: [u8; MOST_VARIABLES]) -> Result<(), Refusal>
         requires fresh { IsTrue self.old.fresh }
         requires admitted { answer ≡ Model → IsTrue (admitted_by (state self.old).finder (take (state self.old).finder.n values)) }
         ensures refusal { result_err result ≡ None }
@@ -103,14 +104,14 @@ impl<F: Finder, C: CoverMaker> Job<F, C> {
         requires asks { Asks (state self.old) (C.Weight.kind.value floor) set }
         ensures { Round (state self.old) (result_err result) (state self.new) }
     {
-        let mut values = [0u8; 256];
+        let mut values = [0; MOST_VARIABLES];
         let answer = self.ask(set, &mut values)?;
         self.follow(floor, answer, values)
     }
 
     /// Asks the finder, which does not refuse a set of given numbers.
     #[tactic(auto, using(crate::proofs::Rounds::questions))]
-    fn ask(&self, set: SoftSet, values: &mut [u8; 256]) -> Result<Answer, Refusal>
+    fn ask(&self, set: SoftSet, values: &mut [u8; MOST_VARIABLES]) -> Result<Answer, Refusal>
         requires { Below (length (state self.now).finder.softs) set }
         ensures refusal { result_err result ≡ None }
         ensures answer { Asked (state self.now).finder set values.old result values.new }
@@ -119,7 +120,7 @@ impl<F: Finder, C: CoverMaker> Job<F, C> {
     }
 
     /// Takes the answer in. What becomes of the job depends on its phase and on the answer together.
-    fn follow(&mut self, floor: C::Weight, answer: Answer, values: [u8; 256]) -> Result<(), Refusal>
+    fn follow(&mut self, floor: C::Weight, answer: Answer, values: [u8; MOST_VARIABLES]) -> Result<(), Refusal>
         requires fresh { IsTrue self.old.fresh }
         requires admitted { answer ≡ Model → IsTrue (admitted_by (state self.old).finder (take (state self.old).finder.n values)) }
         ensures refusal { result_err result ≡ answer_refused (state self.old) answer }
@@ -163,7 +164,7 @@ impl<F: Finder, C: CoverMaker> Job<F, C> {
     }
 
     /// Keeps the assignment where none is kept, or only a dearer one.
-    fn keep(&mut self, values: [u8; 256]) -> Result<(), Refusal>
+    fn keep(&mut self, values: [u8; MOST_VARIABLES]) -> Result<(), Refusal>
         requires fresh { IsTrue self.old.fresh }
         requires admitted { IsTrue (admitted_by (state self.old).finder (take (state self.old).finder.n values)) }
         ensures refusal { result_err result ≡ None }

@@ -1,6 +1,6 @@
 use Rattle.std.proofs.Common.{rules, string_bytes}
-use Rattle.branching.specs.BranchAndBound.{maker_meaning}
-use Rattle.search.specs.Finder.{finder_meaning}
+use Rattle.maker_branch.specs.BranchAndBound.{maker_meaning}
+use Rattle.finder_search.specs.Finder.{finder_meaning}
 use Rattle.sessions.proofs.Opening.{opened_plain, opened_levels}
 use Rattle.sessions.proofs.session.open_job.Goals as goal
 use Rattle.texts.specs.Left.{left}

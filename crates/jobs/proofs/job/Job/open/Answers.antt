@@ -1,5 +1,5 @@
 use Rattle.std.proofs.Common.{rules}
-use Rattle.theory.proofs.Bracket.{opening_has}
+use Rattle.bracket.proofs.Bracket.{opening_has}
 use Rattle.jobs.proofs.job.Job.open.Goals as goal
 
 pub returns-clause-bracket : goal.returns-clause-bracket

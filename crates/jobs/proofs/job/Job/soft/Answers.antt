@@ -1,4 +1,4 @@
-use Rattle.theory.proofs.Bracket.{step_keeps}
+use Rattle.bracket.proofs.Bracket.{step_keeps}
 use Rattle.jobs.proofs.job.Job.soft.Goals as goal
 
 pub returns-clause-bracket : goal.returns-clause-bracket

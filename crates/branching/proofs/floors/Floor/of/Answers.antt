@@ -1,5 +1,0 @@
-use Rattle.std.proofs.Common.{◌∙◌}
-use Rattle.branching.proofs.floors.Floor.of.Goals as goal
-
-pub loop-preserved : goal.loop-preserved
-loop-preserved g c = (c.put_on.ensures.base ∙ c.loop.invariant.0, c.put_on.ensures.loads c.args.chosen c.loop.invariant.1)

@@ -1,6 +1,0 @@
-use Rattle.branching.specs.Branches.{in_branch}
-use Rattle.branching.proofs.floors.Floor.put_on.Goals as goal
-
-pub returns-then-has_room-clause-loads : goal.returns-then-has_room-clause-loads
-returns-then-has_room-clause-loads g c chosen b =
-    rw c.keep.ensures.loads (c.raise.ensures (in_branch c.args.store.now chosen c.args.out) b (λ set h. c.in-Some.ensures chosen set h))

@@ -1,5 +1,0 @@
-use Rattle.branching.proofs.LoadLaws.{nothing_borne}
-use Rattle.branching.proofs.loads.Loads.new.Goals as goal
-
-pub returns : goal.returns
-returns g c weights these = nothing_borne g.W.WeightKind.kind g.met.W.WeightKind.laws weights 64 c.zero.result c.zero-2.result these c.zero.ensures c.zero-2.ensures

@@ -1,9 +1,0 @@
-use Rattle.std.proofs.Common.{◌≡◌, ◌<◌, ◌/◌, ◌^◌}
-use Rattle.branching.specs.Multiples.{times}
-use Rattle.branching.proofs.multiples.times.Given as goal
-
--- the weight as many times as the binary digits of the count say that were read
-abbrev pub invariant-loop-place : goal.invariant-loop-place
-invariant-loop-place g l =
-    let K = g.W.WeightKind.kind in
-    l.count < 1024 → K.value l.product ≡ times K (K.value l.weight) (l.count / 2 ^ l.place)

@@ -1,0 +1,4 @@
+pub mod Pushed
+pub mod Breaking
+pub mod Meeting
+pub mod Proper

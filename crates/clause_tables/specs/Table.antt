@@ -1,0 +1,57 @@
+-- What the tables of a finder show, what that means, and how a clause more changes it.
+use Rattle.std.specs.Prelude.{ℕ, ◌-◌, min, Bool, false, List, [], ◌∷◌, ◌++◌, length, ℤ, Option}
+use Rattle.terms.specs.Earliest.{earliest}
+use Rattle.terms.specs.declared.refusals.Part.TheVariants.{Finder}
+use Rattle.terms.specs.declared.refusals.Refusal.{Refusal}
+use Rattle.terms.specs.declared.refusals.Refusal.TheVariants.{ClauseTooLong, BadLiteral, NoSoftPlace, NoClausePlace}
+use Rattle.finders.specs.Meanings.{FinderMeaning, fresh, with_hard, with_soft}
+use Rattle.finders.specs.Refused.{too_long, has_bad, no_soft_place, no_place}
+use Rattle.clause_tables.specs.Entries.{Entry, hards, softs, satisfied_all, softs_after}
+use Rattle.clause_tables.specs.declared.records.ClauseKind.{ClauseKind}
+use Rattle.clause_tables.specs.declared.records.ClauseKind.TheVariants.{Hard, Soft}
+use Rattle.clause_tables.specs.declared.room.Room.{Room}
+
+pub record Table : Type 0 where
+  -- the number of variables
+  pub n : ℕ
+  -- the clauses in the order in which they came
+  pub entries : List Entry
+  pub free_softs : ℕ
+  pub free_clauses : ℕ
+  pub free_literals : ℕ
+
+abbrev pub meaning_of : Table → FinderMeaning
+meaning_of t = record {
+  n = t.n;
+  admits = satisfied_all (hards t.entries);
+  softs = softs t.entries;
+  free_softs = t.free_softs;
+  free_clauses = t.free_clauses;
+  free_literals = t.free_literals;
+}
+
+-- what is made on tables of so many records and literals, in this room
+abbrev pub made_in : Room → ℕ → ℕ → FinderMeaning
+made_in r records literals = fresh r.variables r.softs (min records r.places) (min literals r.places)
+
+-- ---- adding a clause of either kind
+abbrev pub with_entry : Table → Entry → Table
+with_entry t e = record t {
+  entries = t.entries ++ e ∷ [];
+  free_softs = t.free_softs - softs_after 0 e.kind;
+  free_clauses = t.free_clauses - 1;
+  free_literals = t.free_literals - length e.clause;
+}
+
+abbrev pub lacks_soft_place : ClauseKind → FinderMeaning → Bool
+lacks_soft_place Hard m = false
+lacks_soft_place (Soft k) m = no_soft_place m
+
+-- at the two kinds these are what every finder refuses hard and soft clauses for
+abbrev pub refused_as : ClauseKind → FinderMeaning → List ℤ → Option Refusal
+refused_as k m c =
+    earliest ((too_long c, ClauseTooLong) ∷ (has_bad m.n c, BadLiteral) ∷ (lacks_soft_place k m, NoSoftPlace Finder) ∷ (no_place m c, NoClausePlace) ∷ [])
+
+abbrev pub with_clause : ClauseKind → FinderMeaning → List ℤ → FinderMeaning
+with_clause Hard m c = with_hard m c
+with_clause (Soft k) m c = with_soft m c

@@ -1,0 +1,29 @@
+-- What it is to spare a number, and to take the cheaper of two sets.
+use Rattle.std.specs.Prelude.{◌≡◌, ℕ, true, not, ◌&&◌, if◌then◌else◌, ◌==◌}
+use Rattle.terms.specs.Masks.{member, subset}
+use Rattle.weights.specs.Costs.{cost}
+use Rattle.weights.specs.Kinds.{Kind}
+use Rattle.makers.specs.Meanings.{MakerMeaning}
+use Rattle.makers.specs.Covers.{is_cover, Needed}
+
+-- a cover within another, in which number k is needed if it is there
+pub record Smaller {W : Type 0} (m : MakerMeaning W) (whole k smaller : ℕ) : Type 0 where
+  pub covers : is_cover m smaller ≡ true
+  pub within : subset smaller whole ≡ true
+  pub needed : member smaller k ≡ true → Needed m smaller k
+
+-- the rest has the members of the cover without the number k
+abbrev pub Without : ℕ → ℕ → ℕ → Type 0
+Without cover k rest = (j : ℕ) → member rest j ≡ (member cover j && not (k == j))
+
+-- the set, where it is a cover and costs less than the other, and the other if not
+abbrev pub cheaper_of : {W : Type 0} → Kind W → MakerMeaning W → ℕ → ℕ → ℕ
+cheaper_of K m set other = if is_cover m set && not (K.le (cost K m.weights other) (cost K m.weights set)) then set else other
+
+-- r is a cover if the other is. It costs no more than that, nor than the set if this is a cover. It is the other, unless the
+-- set costs less.
+pub record NoDearer {W : Type 0} (K : Kind W) (m : MakerMeaning W) (set other r : ℕ) : Type 0 where
+  pub covers : is_cover m other ≡ true → is_cover m r ≡ true
+  pub than_other : K.le (cost K m.weights r) (cost K m.weights other) ≡ true
+  pub stays : K.le (cost K m.weights other) (cost K m.weights set) ≡ true → r ≡ other
+  pub than_set : is_cover m set ≡ true → K.le (cost K m.weights r) (cost K m.weights set) ≡ true

@@ -1,5 +1,0 @@
-use Rattle.examples.proofs.Computed.{examples_hold}
-use Rattle.examples.proofs.worked_examples.Goals as goal
-
-pub returns-clause-proved : goal.returns-clause-proved
-returns-clause-proved c = examples_hold

@@ -1,0 +1,21 @@
+-- Whether a clause is open, as the clauses are gone over.
+use Rattle.std.proofs.Common.{◌≡◌, ℕ, true, ◌&&◌, List, ◌∷◌, All, ℤ, Some, None, Option, refl, ap, ◌∙◌}
+use Rattle.std.specs.List.{list_all}
+use Rattle.clause_tables.specs.Entries.{Entry}
+use Rattle.clause_tables.specs.Table.{Table}
+use Rattle.finder_search.specs.Searching.{OpenIn, is_met, is_quiet}
+use Rattle.finder_search.specs.declared.slots.Slot.{Slot}
+
+-- each clause is quiet
+abbrev pub AllQuiet : ℕ → List Slot → List Entry → Type 0
+AllQuiet set ss es = All (λ e. is_quiet set ss e ≡ true) es
+
+-- all clauses are met where the rest are
+abbrev pub MetBefore : Table → ℕ → List Slot → List Entry → Type 0
+MetBefore t set ss rest = list_all (is_met set ss) t.entries ≡ list_all (is_met set ss) rest
+
+-- a clause without an open literal is passed over
+pub met_more : (t : Table) (set : ℕ) (ss : List Slot) (e : Entry) (rest : List Entry) (here : Option ℤ) → ((l : ℤ) → here ≡ Some l → ⊥) → is_quiet set ss e ≡ true → OpenIn set ss e here
+    → MetBefore t set ss (e ∷ rest) → MetBefore t set ss rest
+met_more t set ss e rest None none quiet here so = so ∙ ap (λ b. b && list_all (is_met set ss) rest) (here quiet)
+met_more t set ss e rest (Some l) none quiet here so = absurd (none l refl)

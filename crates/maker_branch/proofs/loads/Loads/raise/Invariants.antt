@@ -1,0 +1,13 @@
+use Rattle.std.proofs.Common.{◌≡◌, ℕ, Bool, true}
+use Rattle.terms.specs.Masks.{intersect}
+use Rattle.maker_branch.specs.Loads.{Bears}
+use Rattle.maker_branch.proofs.Raising.{Owing}
+use Rattle.maker_branch.proofs.loads.Loads.raise.Given as goal
+
+-- the numbers to come still owe the amount
+abbrev pub invariant-loop-number : goal.invariant-loop-number
+invariant-loop-number g l =
+    let K = g.W.WeightKind.kind in
+    (l.self.total ≡ l.fn.self.total)
+    × ((these : ℕ → Bool) → Bears K l.store.weights these l.fn.self.loads l.fn.self.total → ((other : ℕ) → these other ≡ true → intersect l.fn.set other ≡ true)
+    → Owing K l.store.weights these (K.value l.amount) l.fn.self.total l.number-iterator l.self.loads)

@@ -1,0 +1,9 @@
+use Rattle.std.proofs.Common.{◌≡◌, ℕ, not, ◌&&◌, take}
+use Rattle.std.specs.List.{list_any}
+use Rattle.terms.specs.Masks.{member, intersect}
+use Rattle.maker_branch.proofs.scores.Scores.of.Given as goal
+
+-- the numbers left are those of the open cores so far
+abbrev pub invariant-loop-core : goal.invariant-loop-core
+invariant-loop-core g l =
+    (k : ℕ) → member l.scores.left k ≡ (list_any (λ core. not (intersect core l.chosen) && member core k) (take l.core-index l.core-items) && not (member l.out k))

@@ -1,0 +1,105 @@
+//! The maker itself: its store, what a search knows of the weights, and its calls.
+ghost use Rattle.std.specs.Prelude.{◌≡◌, IfOk, true};
+ghost use Rattle.makers.specs.Covers.{is_cover, Minimal};
+ghost use Rattle.makers.specs.Meanings.{fresh, Limited};
+
+use crate::floors::Floor;
+use crate::multiples::times;
+use crate::quick::quick_cover;
+use makers::CoverMaker;
+use std::alloc::{AllocError, Global};
+use core_store::Store;
+use terms::{Refusal, SoftSet};
+use weights::WeightKind;
+
+/// A cover maker for up to 64 weights.
+#[derive(Debug, Drop)]
+pub struct BranchAndBoundMaker<W: WeightKind> {
+    pub(crate) store: Store<W>,
+    /// A floor without loads, which knows the lightest weight. It shows too that a floor of this kind has a size.
+    pub(crate) blank: Floor<W>,
+    /// The numbers of which sixteen weights together are at least as heavy as the heaviest one.
+    pub(crate) heavy: SoftSet,
+    ghost limited: { Limited W.kind store },
+}
+
+impl<W: WeightKind> BranchAndBoundMaker<W> {
+    ghost use Rattle.maker_branch.specs.BranchAndBound.{maker_meaning};
+
+    /// A maker without weights and cores. All its memory is reserved here.
+    pub fn new(alloc: Global) -> Result<Self, AllocError>
+        ensures { IfOk result (λ maker. maker_meaning maker ≡ fresh 64) }
+    {
+        Ok(BranchAndBoundMaker {
+            store: Store::new(alloc, SoftSet::CAPACITY)?,
+            blank: Floor::new(W::zero()),
+            heavy: SoftSet::empty(),
+        })
+    }
+
+    /// Brings what a search knows of the weights in step with them.
+    fn prepare(&mut self)
+        ensures { maker_meaning self.new ≡ maker_meaning self.old }
+    {
+        let weights = self.store.weights();
+        let lightest = weights.iter().copied().min().unwrap_or(W::zero());
+        let heaviest = weights.iter().copied().max().unwrap_or(W::zero());
+        let mut heavy = SoftSet::empty();
+        for (number, weight) in weights.iter().enumerate() {
+            if times(*weight, 16).is_none_or(|sixteen| heaviest <= sixteen) {
+                heavy = heavy.insert(number);
+            }
+        }
+        self.blank = Floor::new(lightest);
+        self.heavy = heavy;
+    }
+}
+
+impl<W: WeightKind> CoverMaker for BranchAndBoundMaker<W> {
+    ghost use Rattle.maker_branch.specs.BranchAndBound.{maker_meaning};
+
+    type Weight = W;
+
+    ghost meaning = { maker_meaning };
+
+    ghost limited = { λ maker. maker.limited };
+
+    fn soft_count(&self) -> usize {
+        self.store.soft_count()
+    }
+
+    fn core_count(&self) -> usize {
+        self.store.core_count()
+    }
+
+    fn weight_refusal(&self, weight: W) -> Option<Refusal> {
+        self.store.weight_refusal(weight)
+    }
+
+    fn add_weight(&mut self, weight: W) -> Result<(), Refusal> {
+        self.store.add_weight(weight)?;
+        self.prepare();
+        Ok(())
+    }
+
+    fn add_core(&mut self, core: SoftSet) -> Result<(), Refusal> {
+        self.store.add_core(core)
+    }
+
+    fn cost(&self, set: SoftSet) -> Result<W, Refusal> {
+        self.store.cost(set)
+    }
+
+    /// As every cover maker, and no member can be spared.
+    fn cover(&self) -> SoftSet
+        ensures covers { is_cover (maker_meaning self.now) result ≡ true }
+        ensures minimal { Minimal (maker_meaning self.now) result }
+    {
+        quick_cover(&self.store)
+    }
+
+    #[tactic(auto, using(crate::proofs::Members::below_none))]
+    fn least_cover(&self) -> SoftSet {
+        self.narrow(SoftSet::empty(), SoftSet::empty(), self.cover())
+    }
+}

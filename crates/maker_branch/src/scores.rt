@@ -1,0 +1,81 @@
+//! How much each soft number would do.
+ghost use Rattle.std.specs.Prelude.{◌≡◌, ℕ, ◌≤◌, true, false, ◌||◌, IfSome, IsNone, slice_index_or};
+ghost use Rattle.terms.specs.Masks.{member};
+ghost use Rattle.maker_branch.specs.Scores.{is_left};
+
+use core_store::Store;
+use terms::SoftSet;
+use weights::WeightKind;
+
+/// A score for each soft number.
+#[derive(Clone, Copy, Debug)]
+pub(crate) struct Scores {
+    scores: [u32; SoftSet::CAPACITY],
+    /// The numbers with a score.
+    pub(crate) left: SoftSet,
+}
+
+impl Scores {
+    fn new() -> Scores
+        ensures { (k : ℕ) → member result.left k ≡ false }
+    {
+        Scores {
+            scores: [0; SoftSet::CAPACITY],
+            left: SoftSet::empty(),
+        }
+    }
+
+    /// Scores from the cores that the chosen numbers do not meet, without the numbers that were left out.
+    /// What is left of a core is worth so much to each of its numbers.
+    pub(crate) fn of<W: WeightKind, F: Fn(SoftSet) -> u32>(
+        store: &Store<W>,
+        chosen: SoftSet,
+        out: SoftSet,
+        worth: F,
+    ) -> Scores
+        requires { F.IsAlwaysCallable worth }
+        ensures { (k : ℕ) → member result.left k ≡ is_left store.now chosen out k }
+    {
+        let mut scores = Scores::new();
+        for core in store.cores() {
+            if !core.intersects(chosen) {
+                let rest = core.minus(out);
+                scores.add(rest, worth(rest));
+            }
+        }
+        scores
+    }
+
+    /// Adds the worth to the score of each number of the set.
+    fn add(&mut self, set: SoftSet, worth: u32)
+        ensures { (k : ℕ) → member self.new.left k ≡ (member self.old.left k || member set k) }
+    {
+        for number in set.members() {
+            self.scores[number] = self.scores[number].saturating_add(worth);
+        }
+        self.left = self.left.union(set);
+    }
+
+    /// The score of the number; numbers from 64 on have none.
+    pub(crate) fn of_number(&self, number: usize) -> u32
+        ensures { result ≡ slice_index_or self.now.scores number 0 }
+    {
+        self.scores.get(number).copied().unwrap_or(0)
+    }
+
+    /// The number with the highest score.
+    pub(crate) fn best(&self) -> Option<usize>
+        ensures none { IsNone result → (k : ℕ) → member self.now.left k ≡ false }
+        ensures member { IfSome result (λ number. member self.now.left number ≡ true) }
+        ensures most { IfSome result (λ number. (k : ℕ) → member self.now.left k ≡ true
+            → slice_index_or self.now.scores k 0 ≤ slice_index_or self.now.scores number 0) }
+    {
+        let mut best = self.left.first()?;
+        for number in self.left.members() {
+            if self.of_number(number) > self.of_number(best) {
+                best = number;
+            }
+        }
+        Some(best)
+    }
+}

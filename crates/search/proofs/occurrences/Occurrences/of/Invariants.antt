@@ -1,6 +1,0 @@
-use Rattle.search.proofs.Occurring.{Coming}
-use Rattle.search.proofs.occurrences.Occurrences.of.Given as goal
-
--- the clauses before those that are still to come are told
-abbrev pub invariant-loop-clause : goal.invariant-loop-clause
-invariant-loop-clause l = Coming l.tables l.set l.number l.occurrences l.clause-iterator

@@ -1,7 +1,0 @@
--- What a count-through finder means.
-use Rattle.finders.specs.Meanings.{FinderMeaning}
-use Rattle.tables.specs.Table.{meaning_of}
-use Rattle.tables.specs.declared.count_through.CountThrough.{CountThrough}
-
-abbrev pub finder_meaning : CountThrough → FinderMeaning
-finder_meaning x = meaning_of x.tables

@@ -1,7 +1,0 @@
-pub mod Filled
-pub mod Room
-pub mod Entries
-pub mod Table
-pub mod Tables
-pub mod Trying
-pub mod CountThrough
