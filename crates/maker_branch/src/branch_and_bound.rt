@@ -9,6 +9,7 @@ use crate::quick::quick_cover;
 use makers::CoverMaker;
 use std::alloc::{AllocError, Global};
 use core_store::Store;
+use terms::limits::SOFT_PLACES;
 use terms::{Refusal, SoftSet};
 use weights::WeightKind;
 
@@ -31,7 +32,7 @@ impl<W: WeightKind> BranchAndBoundMaker<W> {
         ensures { IfOk result (λ maker. maker_meaning maker ≡ fresh 64) }
     {
         Ok(BranchAndBoundMaker {
-            store: Store::new(alloc, SoftSet::CAPACITY)?,
+            store: Store::new(alloc, SOFT_PLACES)?,
             blank: Floor::new(W::zero()),
             heavy: SoftSet::empty(),
         })

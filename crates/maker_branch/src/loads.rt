@@ -6,6 +6,7 @@ ghost use Rattle.maker_branch.specs.Branches.{in_branch};
 ghost use Rattle.maker_branch.specs.Loads.{value_at, AllWithin, Bears};
 
 use core_store::Store;
+use terms::limits::SOFT_PLACES;
 use terms::SoftSet;
 use weights::WeightKind;
 
@@ -13,7 +14,7 @@ use weights::WeightKind;
 /// cover of the branch has one: so such a cover costs at least what the cores put on, each of them counted once.
 #[derive(Clone, Copy, Debug)]
 pub(crate) struct Loads<W: WeightKind> {
-    loads: [W; SoftSet::CAPACITY],
+    loads: [W; SOFT_PLACES],
     /// What was put on, counted once for each core.
     total: W,
     /// Numbers that cannot bear the lightest weight more.
@@ -28,7 +29,7 @@ impl<W: WeightKind> Loads<W> {
         ensures { (weights : List W) → (these : ℕ → Bool) → Bears W.kind weights these result.loads result.total }
     {
         Loads {
-            loads: [W::zero(); SoftSet::CAPACITY],
+            loads: [W::zero(); SOFT_PLACES],
             total: W::zero(),
             full: SoftSet::empty(),
             lightest,

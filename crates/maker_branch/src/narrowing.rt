@@ -1,7 +1,6 @@
 //! Narrowing a search for a least cover: to one branch and then to the other.
 ghost use Rattle.std.specs.Prelude.{◌≡◌, ◌-◌, ◌^◌, ℕ, true, false, IfSome, IsNone, IsTrue};
 ghost use Rattle.terms.specs.Masks.{subset, intersect, below, size};
-ghost use Rattle.terms.specs.Sets.{capacity};
 ghost use Rattle.weights.specs.Costs.{cost};
 ghost use Rattle.makers.specs.Covers.{is_cover};
 ghost use Rattle.maker_branch.specs.Branches.{meets_in, in_branch, Best};
@@ -14,6 +13,7 @@ use crate::loads::Loads;
 use crate::order::Order;
 use crate::scores::Scores;
 use core_store::Store;
+use terms::limits::SOFT_PLACES;
 use terms::SoftSet;
 use weights::WeightKind;
 
@@ -21,8 +21,8 @@ impl<W: WeightKind> BranchAndBoundMaker<W> {
     /// A cover that costs no more than the best in hand, and no more than any that has all of `chosen` and nothing of `out`.
     #[cycle(narrowing)]
     pub(crate) fn narrow(&self, chosen: SoftSet, out: SoftSet, best: SoftSet) -> SoftSet
-        requires chosen { IsTrue (below capacity chosen) }
-        requires out { IsTrue (below capacity out) }
+        requires chosen { IsTrue (below SOFT_PLACES chosen) }
+        requires out { IsTrue (below SOFT_PLACES out) }
         requires cover { is_cover self.now.store best ≡ true }
         ensures { Best W.kind self.now.store chosen out best result }
     {
@@ -35,8 +35,8 @@ impl<W: WeightKind> BranchAndBoundMaker<W> {
     /// The same, once the forced numbers are chosen. The branch is given up where its floor reaches what the best in hand costs.
     #[cycle(narrowing)]
     fn cut(&self, chosen: SoftSet, out: SoftSet, best: SoftSet) -> SoftSet
-        requires chosen { IsTrue (below capacity chosen) }
-        requires out { IsTrue (below capacity out) }
+        requires chosen { IsTrue (below SOFT_PLACES chosen) }
+        requires out { IsTrue (below SOFT_PLACES out) }
         requires cover { is_cover self.now.store best ≡ true }
         ensures { Best W.kind self.now.store chosen out best result }
     {
@@ -68,8 +68,8 @@ impl<W: WeightKind> BranchAndBoundMaker<W> {
     #[cycle(narrowing)]
     fn split(&self, number: usize, chosen: SoftSet, out: SoftSet, best: SoftSet) -> SoftSet
         requires number { is_left self.now.store chosen out number ≡ true }
-        requires chosen { IsTrue (below capacity chosen) }
-        requires out { IsTrue (below capacity out) }
+        requires chosen { IsTrue (below SOFT_PLACES chosen) }
+        requires out { IsTrue (below SOFT_PLACES out) }
         requires cover { is_cover self.now.store best ≡ true }
         ensures { Best W.kind self.now.store chosen out best result }
     {
@@ -80,10 +80,10 @@ impl<W: WeightKind> BranchAndBoundMaker<W> {
     /// The chosen numbers, and each that is the last one left of an open core: every cover of the branch has these. None where
     /// a core has none left.
     fn with_forced(&self, chosen: SoftSet, out: SoftSet) -> Option<SoftSet>
-        requires { IsTrue (below capacity chosen) }
+        requires { IsTrue (below SOFT_PLACES chosen) }
         ensures none { IsNone result → (set : ℕ) → in_branch self.now.store chosen out set ≡ false }
         ensures more { IfSome result (λ more. subset chosen more ≡ true) }
-        ensures fits { IfSome result (λ more. IsTrue (below capacity more)) }
+        ensures fits { IfSome result (λ more. IsTrue (below SOFT_PLACES more)) }
         ensures forced { IfSome result (λ more. (set : ℕ) → in_branch self.now.store chosen out set ≡ true → subset more set ≡ true) }
     {
         let mut forced = chosen;
@@ -102,10 +102,10 @@ impl<W: WeightKind> BranchAndBoundMaker<W> {
         left: SoftSet,
         ceiling: W,
     ) -> SoftSet
-        requires out { IsTrue (below capacity out) }
+        requires out { IsTrue (below SOFT_PLACES out) }
         requires base { Bears W.kind self.now.store.weights (in_branch self.now.store chosen out) floor.now.base.loads floor.now.base.total }
         ensures more { subset out result ≡ true }
-        ensures fits { IsTrue (below capacity result) }
+        ensures fits { IsTrue (below SOFT_PLACES result) }
         ensures dear { (set : ℕ) → in_branch self.now.store chosen out set ≡ true → intersect result set ≡ true
             → W.kind.le (W.kind.value ceiling) (cost W.kind self.now.store.weights set) ≡ true }
     {
@@ -126,7 +126,7 @@ impl<W: WeightKind> BranchAndBoundMaker<W> {
 fn with_last(chosen: SoftSet, out: SoftSet, core: SoftSet) -> Option<SoftSet>
     ensures none { IsNone result → (set : ℕ) → meets_in chosen out core set ≡ false }
     ensures more { IfSome result (λ more. subset chosen more ≡ true) }
-    ensures fits { IsTrue (below capacity chosen) → IfSome result (λ more. IsTrue (below capacity more)) }
+    ensures fits { IsTrue (below SOFT_PLACES chosen) → IfSome result (λ more. IsTrue (below SOFT_PLACES more)) }
     ensures forced { IfSome result (λ more. (set : ℕ) → meets_in chosen out core set ≡ true → subset more set ≡ true) }
 {
     if core.intersects(chosen) {
@@ -143,7 +143,7 @@ fn with_last(chosen: SoftSet, out: SoftSet, core: SoftSet) -> Option<SoftSet>
 
 /// What is left of a core counts the more the fewer numbers it has, up to eight; from there it counts least.
 fn worth(rest: SoftSet) -> u32
-    ensures { result ≡ 2 ^ (8 - size capacity rest) }
+    ensures { result ≡ 2 ^ (8 - size SOFT_PLACES rest) }
 {
     1 << 8_usize.saturating_sub(rest.len())
 }

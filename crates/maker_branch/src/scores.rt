@@ -4,13 +4,14 @@ ghost use Rattle.terms.specs.Masks.{member};
 ghost use Rattle.maker_branch.specs.Scores.{is_left};
 
 use core_store::Store;
+use terms::limits::SOFT_PLACES;
 use terms::SoftSet;
 use weights::WeightKind;
 
 /// A score for each soft number.
 #[derive(Clone, Copy, Debug)]
 pub(crate) struct Scores {
-    scores: [u32; SoftSet::CAPACITY],
+    scores: [u32; SOFT_PLACES],
     /// The numbers with a score.
     pub(crate) left: SoftSet,
 }
@@ -20,7 +21,7 @@ impl Scores {
         ensures { (k : ℕ) → member result.left k ≡ false }
     {
         Scores {
-            scores: [0; SoftSet::CAPACITY],
+            scores: [0; SOFT_PLACES],
             left: SoftSet::empty(),
         }
     }
