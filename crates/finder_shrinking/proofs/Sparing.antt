@@ -2,11 +2,11 @@
 use Rattle.std.proofs.Common.{ℕ, ◌+◌, ◌-◌, ◌^◌, not, ◌&&◌, eqb, List, sym, ap, ◌∙◌, arith, pow_pos}
 use lib.Bits.{bit_and}
 use Rattle.std.proofs.lemmas.Bool.{and_parts, and_from}
-use Rattle.terms.specs.Masks.{member, Subset}
+use Rattle.terms.specs.Masks.{member, Subset, Without}
 use Rattle.terms.proofs.MaskLaws.{member_minus, member_one, below_pow}
 use Rattle.finders.specs.Meanings.{FinderMeaning}
 use Rattle.finders.specs.Questions.{Model}
-use Rattle.finder_shrinking.specs.Shrunk.{Without, Needed}
+use Rattle.finder_shrinking.specs.Shrinking.{Needed}
 
 -- there is a set with the number left out
 leave_out : (set k : ℕ) → (rest : ℕ) × Without set k rest

@@ -1,1 +1,1 @@
-pub mod Shrunk
+pub mod Shrinking

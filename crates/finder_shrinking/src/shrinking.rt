@@ -4,7 +4,7 @@ ghost use Rattle.std.specs.Result.{result_err};
 ghost use Rattle.terms.specs.Masks.{Subset, Below};
 ghost use Rattle.finders.specs.Questions.{Asked, Core};
 ghost use Rattle.finders.specs.Refused.{ask_refused};
-ghost use Rattle.finder_shrinking.specs.Shrunk.{Cored, Minimal, Shrunk, Smaller};
+ghost use Rattle.finder_shrinking.specs.Shrinking.{Cored, Minimal, Shrunk, Smaller};
 
 use finders::{Answer, Finder};
 use std::marker::Model;

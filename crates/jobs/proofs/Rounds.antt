@@ -37,11 +37,11 @@ pub ruleset rests = (unfresh, ended)
 pub ruleset questions = (nat_tests, not_refused)
 
 module _ {W : Type 0} {K : Kind W} where
-  pub begins : (s t : State K) (set : ℕ) (before after : List ℕ) (a : Answer) (o : Option Refusal) → s.fresh ≡ true → status s ≡ Unasked → set ≡ 0
+  pub first_rounds : (s t : State K) (set : ℕ) (before after : List ℕ) (a : Answer) (o : Option Refusal) → s.fresh ≡ true → status s ≡ Unasked → set ≡ 0
       → Asked s.finder set before (Ok a) after → o ≡ None → t ≡ after_first s a after → Round s o t
-  begins s t set before after Found o fresh unasked e told none led =
+  first_rounds s t set before after Found o fresh unasked e told none led =
       subst₂ (Round s) (sym none) (sym led) (first_model fresh unasked (take s.finder.n after) (subst (λ x. Model s.finder x (take s.finder.n after)) e told.0))
-  begins s t set before after (Conflict core) o fresh unasked e told none led =
+  first_rounds s t set before after (Conflict core) o fresh unasked e told none led =
       subst₂ (Round s) (sym none) (sym led) (none_allowed fresh unasked core told.0 (subst (Subset core) e told.1))
 
   -- a core that is found where something is kept is refused only for want of a place

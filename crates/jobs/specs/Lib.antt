@@ -1,3 +1,5 @@
-pub mod Plans
-pub mod Jobs
 pub mod Answers
+pub mod Copies
+pub mod Jobs
+pub mod Plans
+pub mod Plays

@@ -1,13 +1,12 @@
 -- What is kept, seen as a plan.
-use Rattle.std.specs.Prelude.{ℕ, Bool, true, false, not, List, [], ◌∷◌, ◌++◌, ◌&&◌, ◌==◌, length, take, drop, Some, None, Option, is_some, nat_lt}
+use Rattle.std.specs.Prelude.{◌≡◌, ℕ, Bool, true, false, List, ◌&&◌, ◌==◌, IsTrue, length, take, Some, None, Option}
 use Rattle.terms.specs.Clauses.{binary}
-use Rattle.terms.specs.Earliest.{earliest}
-use Rattle.terms.specs.declared.refusals.Refusal.{Refusal}
-use Rattle.terms.specs.declared.refusals.Refusal.TheVariants.{TooShort, NothingKept}
 use Rattle.weights.specs.Kinds.{Kind}
 use Rattle.finders.specs.Meanings.{FinderMeaning}
-use Rattle.bracket.specs.States.{Plan, State, same}
-use Rattle.jobs.specs.declared.job.Kept.{Kept}
+use Rattle.finders.specs.declared.finder.Answer.{Answer}
+use Rattle.finders.specs.declared.finder.Answer.TheVariants.{Model}
+use Rattle.bracket.specs.States.{Plan, same}
+use Rattle.jobs.specs.declared.play.Kept.{Kept}
 
 -- the finder admits the assignment
 abbrev pub admitted_by : FinderMeaning → List ℕ → Bool
@@ -18,6 +17,10 @@ abbrev pub kept_admitted_by : {V : Type 0} → FinderMeaning → Option (Plan V)
 kept_admitted_by f None = true
 kept_admitted_by f (Some p) = admitted_by f p.values
 
+-- where the answer is a model, the finder admits the assignment in the first n bytes
+abbrev pub AdmittedModel : FinderMeaning → Answer → List ℕ → Type 0
+AdmittedModel f answer bytes = answer ≡ Model → IsTrue (admitted_by f (take f.n bytes))
+
 -- the first n bytes at their cost
 abbrev pub plan : {W : Type 0} (K : Kind W) → ℕ → Option (Kept W) → Option (Plan K.V)
 plan K n None = None
@@ -27,12 +30,3 @@ plan K n (Some kept) = Some (record { values = take n kept.values; cost = K.valu
 abbrev pub is_ceiling : {W : Type 0} (K : Kind W) → K.V → Option (Plan K.V) → Bool
 is_ceiling K floor None = false
 is_ceiling K floor (Some p) = same K floor p.cost
-
--- ---- copying what is kept
-abbrev pub copy_refused : {W : Type 0} {K : Kind W} → State K → List ℕ → Option Refusal
-copy_refused s buffer = earliest ((nat_lt (length buffer) s.finder.n, TooShort) ∷ (not (is_some s.kept), NothingKept) ∷ [])
-
--- a buffer with the kept values in front
-abbrev pub copied_over : {V : Type 0} → Option (Plan V) → List ℕ → List ℕ
-copied_over None buffer = buffer
-copied_over (Some p) buffer = p.values ++ drop (length p.values) buffer

@@ -1,43 +1,32 @@
-//! The job, its opening, and what it tells.
-ghost use Rattle.std.specs.Prelude.{◌≡◌, length, take, true, IsTrue, IfOk, None, option_map};
+//! The job: its opening, its calls, and what it tells.
+ghost use Rattle.std.specs.Prelude.{◌≡◌, length, IfOk, option_map};
 ghost use Rattle.std.specs.Result.{result_err};
 ghost use Rattle.terms.specs.Earliest.{unless_refused};
+ghost use Rattle.bracket.specs.Brackets.{KeepsBracket, OpensBracket};
 ghost use Rattle.bracket.specs.States.{opened_on, status, are_fresh};
-ghost use Rattle.bracket.specs.Brackets.{OpensBracket};
-ghost use Rattle.bracket.specs.Changes.{priced};
-ghost use Rattle.jobs.specs.Plans.{admitted_by, kept_admitted_by, plan, copy_refused, copied_over};
+ghost use Rattle.bracket.specs.Steps.{Step, hard as hard_call, soft as soft_call, round as round_call};
+ghost use Rattle.jobs.specs.Copies.{copy_refused, copied_over};
+ghost use Rattle.jobs.specs.Plans.{plan};
 
-mod clauses;
-mod rounds;
-
-use makers::CoverMaker;
+use crate::play::{Kept, Play};
+use bracket::Status;
 use finders::Finder;
+use makers::CoverMaker;
 use terms::Refusal;
-use terms::limits::MOST_VARIABLES;
-use bracket::{Phase, Status};
 use weights::WeightKind;
 
 /// A finder and a cover maker, and what is known of the cheapest plan so far.
 #[derive(Drop)]
 pub struct Job<F: Finder, C: CoverMaker> {
-    finder: F,
-    maker: C,
-    fresh: bool,
-    floor: C::Weight,
-    kept: Option<Kept<C::Weight>>,
-    phase: Phase,
-    void: bool,
-    // Each soft clause has its weight.
-    ghost paired: { fresh ≡ true → length (C.CoverMaker.meaning maker).weights ≡ length (F.Finder.meaning finder).softs },
-    // The finder admits what is kept.
-    ghost admitted: { IsTrue (kept_admitted_by (F.Finder.meaning finder) (plan C.Weight.kind (F.Finder.meaning finder).n kept)) },
+    parts: Parts<F, C>,
 }
 
-/// An assignment, in the first n bytes, with its cost.
-#[derive(Clone, Copy)]
-struct Kept<W> {
-    values: [u8; MOST_VARIABLES],
-    cost: W,
+/// What a job was opened on.
+#[derive(Drop)]
+pub(crate) enum Parts<F: Finder, C: CoverMaker> {
+    Fresh(Play<F, C>),
+    /// No call that changes a job is taken on these.
+    Used { finder: F, maker: C },
 }
 
 /// What is known of the cost of the cheapest plan: it is at least the floor, and at most the ceiling.
@@ -55,15 +44,46 @@ impl<F: Finder, C: CoverMaker> Job<F, C> {
         ensures state { state result ≡ opened_on C.Weight.kind (F.Finder.meaning finder) (C.CoverMaker.meaning maker) }
         ensures bracket { OpensBracket (F.Finder.meaning finder) (C.CoverMaker.meaning maker) (state result) }
     {
-        let fresh = are_fresh(&finder, &maker);
-        Job {
-            finder,
-            maker,
-            fresh,
-            floor: C::Weight::zero(),
-            kept: None,
-            phase: Phase::Quick,
-            void: false,
+        let parts = if are_fresh(&finder, &maker) {
+            Parts::Fresh(Play::new(finder, maker))
+        } else {
+            Parts::Used { finder, maker }
+        };
+        Job { parts }
+    }
+
+    /// From now on only what satisfies the clause is allowed.
+    pub fn hard(&mut self, clause: &[i32]) -> Result<(), Refusal>
+        ensures step { Step (state self.old) (hard_call clause.now) (result_err result) (state self.new) }
+        ensures bracket { KeepsBracket (state self.old) (hard_call clause.now) (result_err result) (state self.new) }
+    {
+        match &mut self.parts {
+            Parts::Fresh(play) => play.add_hard(clause),
+            Parts::Used { .. } => Err(Refusal::NotFresh),
+        }
+    }
+
+    /// Puts the clause last among the soft ones, and gives its number.
+    pub fn soft(&mut self, weight: C::Weight, clause: &[i32]) -> Result<usize, Refusal>
+        ensures step { Step (state self.old) (soft_call weight clause.now) (result_err result) (state self.new) }
+        ensures number { IfOk result (λ k. k ≡ length (state self.old).finder.softs) }
+        ensures bracket { KeepsBracket (state self.old) (soft_call weight clause.now) (result_err result) (state self.new) }
+    {
+        match &mut self.parts {
+            Parts::Fresh(play) => play.add_soft(weight, clause),
+            Parts::Used { .. } => Err(Refusal::NotFresh),
+        }
+    }
+
+    /// One step towards the cheapest plan.
+    #[tactic(auto, using(crate::proofs::Rounds::rests))]
+    pub fn round(&mut self) -> Result<(), Refusal>
+        ensures step { Step (state self.old) round_call (result_err result) (state self.new) }
+        ensures bracket { KeepsBracket (state self.old) round_call (result_err result) (state self.new) }
+    {
+        match &mut self.parts {
+            Parts::Fresh(play) => play.round(),
+            Parts::Used { .. } => Err(Refusal::NotFresh),
         }
     }
 
@@ -71,20 +91,19 @@ impl<F: Finder, C: CoverMaker> Job<F, C> {
     pub fn variable_count(&self) -> usize
         ensures { result ≡ (state self.now).finder.n }
     {
-        self.finder.variables()
+        match &self.parts {
+            Parts::Fresh(play) => play.variable_count(),
+            Parts::Used { finder, .. } => finder.variables(),
+        }
     }
 
     /// How far the job has come.
     pub fn status(&self) -> Status
         ensures { result ≡ status (state self.now) }
     {
-        if self.void {
-            return Status::Void;
-        }
-        match &self.kept {
-            None => Status::Unasked,
-            Some(kept) if self.floor == kept.cost => Status::Best,
-            Some(_) => Status::Open,
+        match &self.parts {
+            Parts::Fresh(play) => play.status(),
+            Parts::Used { .. } => Status::Unasked,
         }
     }
 
@@ -94,8 +113,8 @@ impl<F: Finder, C: CoverMaker> Job<F, C> {
         ensures ceiling { option_map C.Weight.kind.value result.ceiling ≡ option_map (λ p. p.cost) (state self.now).kept }
     {
         Bracket {
-            floor: self.floor,
-            ceiling: self.kept.map(|kept| kept.cost),
+            floor: self.floor(),
+            ceiling: self.kept().map(|kept| kept.cost),
         }
     }
 
@@ -108,22 +127,31 @@ impl<F: Finder, C: CoverMaker> Job<F, C> {
         if buffer.len() < n {
             return Err(Refusal::TooShort);
         }
-        let Some(kept) = &self.kept else {
+        let Some(kept) = self.kept() else {
             return Err(Refusal::NothingKept);
         };
         buffer[..n].copy_from_slice(&kept.values[..n]);
         Ok(())
     }
 
-    /// What an assignment costs.
-    #[tactic(auto, using(crate::proofs::Calls::cost_laws))]
-    fn cost_of(&self, values: &[u8; MOST_VARIABLES]) -> Result<C::Weight, Refusal>
-        requires fresh { IsTrue self.now.fresh }
-        requires admitted { IsTrue (admitted_by (state self.now).finder (take (state self.now).finder.n values.now)) }
-        ensures refusal { result_err result ≡ None }
-        ensures cost { IfOk result (λ w. C.Weight.kind.value w ≡ (priced (state self.now) (take (state self.now).finder.n values.now)).cost) }
+    /// No plan costs less than this.
+    fn floor(&self) -> C::Weight
+        ensures { C.Weight.kind.value result ≡ (state self.now).floor }
     {
-        self.maker.cost(self.finder.broken(values)?)
+        match &self.parts {
+            Parts::Fresh(play) => play.floor(),
+            Parts::Used { .. } => C::Weight::zero(),
+        }
+    }
+
+    /// The assignment in hand.
+    fn kept(&self) -> Option<Kept<C::Weight>>
+        ensures { plan C.Weight.kind (state self.now).finder.n result ≡ (state self.now).kept }
+    {
+        match &self.parts {
+            Parts::Fresh(play) => play.kept(),
+            Parts::Used { .. } => None,
+        }
     }
 }
 

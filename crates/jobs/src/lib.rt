@@ -2,6 +2,7 @@
 #![tactic(auto)]
 
 mod job;
+mod play;
 
-pub use job::{Bracket, Job};
 pub use bracket::Status;
+pub use job::{Bracket, Job};

@@ -1,5 +1,5 @@
 -- A set of numbers as one number, its mask: k is a member where bit k of the mask is one. No set is too wide for this.
-use Rattle.std.specs.Prelude.{◌≡◌, ℕ, zero, suc, ◌+◌, ◌/◌, ◌%◌, ◌^◌, ◌<◌, Bool, true, if◌then◌else◌, not, ◌==◌, bit_and, nat_lt}
+use Rattle.std.specs.Prelude.{◌≡◌, ℕ, zero, suc, ◌+◌, ◌/◌, ◌%◌, ◌^◌, ◌<◌, Bool, true, if◌then◌else◌, not, ◌&&◌, ◌==◌, bit_and, nat_lt}
 
 unfoldable pub member : ℕ → ℕ → Bool
 member m k = m / 2 ^ k % 2 == 1
@@ -11,6 +11,10 @@ Subset x y = (k : ℕ) → member x k ≡ true → member y k ≡ true
 -- x and y have a member in common
 abbrev pub Intersect : ℕ → ℕ → Type 0
 Intersect x y = (k : ℕ) × (member x k ≡ true) × (member y k ≡ true)
+
+-- the rest has the members of x but for k
+abbrev pub Without : ℕ → ℕ → ℕ → Type 0
+Without x k rest = (j : ℕ) → member rest j ≡ (member x j && not (k == j))
 
 -- each member is below n
 abbrev pub Below : ℕ → ℕ → Type 0

@@ -1,4 +1,4 @@
-//! Literals are `i32`, clauses `&[i32]`, assignments byte slices with variable v at place v - 1.
+//! Literals are `i32`, clauses `&[i32]`, assignments byte slices with variable v at index v - 1.
 ghost use Rattle.std.specs.Prelude.{◌≡◌, pos, if◌then◌else◌, ◌↔◌, IsTrue, int_lt};
 ghost use Rattle.terms.specs.Clauses.{binary, Binary, true_in, satisfied_by, Satisfied, variable, bad_literal, first_bad, FirstBad};
 
@@ -24,7 +24,7 @@ fn is_true(assignment: &[u8], literal: i32) -> bool
 {
     variable(literal)
         .checked_sub(1)
-        .and_then(|place| assignment.get(place))
+        .and_then(|index| assignment.get(index))
         .is_some_and(|value| *value == wanted(literal))
 }
 
@@ -35,7 +35,7 @@ fn wanted(literal: i32) -> u8
     u8::from(literal > 0)
 }
 
-/// The place of the first literal that is 0 or belongs to a variable above `n`.
+/// The index of the first literal that is 0 or belongs to a variable above `n`.
 pub fn first_bad_literal(clause: &[i32], n: usize) -> Option<usize>
     ensures value { result ≡ first_bad n clause.now }
     ensures means { FirstBad n clause.now result }

@@ -28,8 +28,8 @@ impl Layer {
     }
 }
 
-/// Why a call was refused. The cases stand in the order in which they are checked:
-/// a call that meets several is refused for the earliest.
+/// Why a call was refused. The cases stand in the order in which they are checked, which is not that of the numbers:
+/// a call that meets several is refused for the earliest, which is the least.
 #[derive(Clone, Copy, PartialEq, Eq, PartialOrd, Ord, Debug)]
 pub enum Refusal {
     /// 1, text: a session text that is too long.

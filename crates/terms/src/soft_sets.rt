@@ -4,7 +4,7 @@
 ghost use Rattle.std.specs.Prelude.{◌≡◌, ◌↔◌, ℕ, ◌-◌, ◌^◌, min, false, not, ◌&&◌, ◌||◌, IsTrue, ◌==◌, nat_lt, true, ◌<◌, ◌≤◌, IsNone, IfSome, All, length};
 ghost use Rattle.std.specs.Iterator.{YieldsFirst, item_count};
 ghost use Rattle.std.specs.List.{list_any};
-ghost use Rattle.terms.specs.Masks.{member, Subset, Intersect, Below, subset, intersect, below, size};
+ghost use Rattle.terms.specs.Masks.{member, Without, Subset, Intersect, Below, subset, intersect, below, size};
 ghost use Rattle.terms.specs.Sets.{fits, members_of};
 
 use crate::limits::SOFT_PLACES;
@@ -45,7 +45,7 @@ impl SoftSet {
         set
     }
 
-    /// The set whose members are the places of the ones among the binary digits of `mask`.
+    /// The set whose members are the exponents of the ones among the binary digits of `mask`.
     pub fn from_mask(mask: u64) -> SoftSet
         ensures { result ≡ mask }
     {
@@ -80,7 +80,7 @@ impl SoftSet {
     }
 
     pub fn remove(self, number: usize) -> SoftSet
-        ensures { (k : ℕ) → member result k ≡ (member self k && not (number == k)) }
+        ensures { Without self number result }
     {
         SoftSet {
             bits: self.bits & !digit(number),
@@ -199,9 +199,5 @@ impl Iterator for Members {
 fn digit(number: usize) -> u64
     ensures { (k : ℕ) → member result k ≡ (number == k && fits k) }
 {
-    if number < SOFT_PLACES {
-        1 << number
-    } else {
-        0
-    }
+    if number < SOFT_PLACES { 1 << number } else { 0 }
 }

@@ -1,7 +1,7 @@
 use Rattle.std.proofs.Common.{◌≡◌, ℕ, ◌<◌, true}
 use Rattle.terms.specs.Masks.{member, Subset}
 use Rattle.finders.specs.Questions.{Core}
-use Rattle.finder_shrinking.specs.Shrunk.{Needed}
+use Rattle.finder_shrinking.specs.Shrinking.{Needed}
 use Rattle.finder_shrinking.proofs.shrinking.Shrinking.shrink.Given as goal
 
 -- a core within the first one, in which the members that were tried are needed
