@@ -1,5 +1,5 @@
 -- What a job is at one moment.
-use Rattle.std.specs.Prelude.{◌≡◌, ◌⊎◌, ℕ, Bool, false, ◌&&◌, if◌then◌else◌, List, length, Some, None, Option, ◌==◌}
+use Rattle.std.specs.Prelude.{◌≡◌, ◌⊎◌, ℕ, Bool, false, ◌&&◌, if◌then◌else◌, List, length, Some, None, Option, option_map, ◌==◌}
 use Rattle.weights.specs.Kinds.{Kind}
 use Rattle.finders.specs.Meanings.{FinderMeaning}
 use Rattle.makers.specs.Meanings.{MakerMeaning}
@@ -24,6 +24,10 @@ pub record State {W : Type 0} (K : Kind W) : Type 0 where
   pub phase : Phase
   -- whether a round has found that nothing is allowed
   pub void : Bool
+
+-- what the assignment in hand costs
+abbrev pub ceiling : {W : Type 0} {K : Kind W} → State K → Option K.V
+ceiling s = option_map (λ plan. plan.cost) s.kept
 
 -- neither part has soft clauses, weights or cores
 abbrev pub are_fresh : {W : Type 0} → FinderMeaning → MakerMeaning W → Bool

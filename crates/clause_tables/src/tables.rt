@@ -3,7 +3,7 @@ ghost use Rattle.std.specs.Prelude.{◌≡◌, ◌≤◌, ◌↔◌, IsTrue, ℕ
 ghost use Rattle.std.specs.Result.{result_err};
 ghost use Rattle.terms.specs.Clauses.{breaks};
 ghost use Rattle.terms.specs.Masks.{member};
-ghost use Rattle.terms.specs.Earliest.{unless_refused};
+ghost use Rattle.terms.specs.Earliest.{Changes};
 ghost use Rattle.finders.specs.Meanings.{Limited, with_hard, with_soft};
 ghost use Rattle.finders.specs.Questions.{ToldBroken};
 ghost use Rattle.finders.specs.Refused.{hard_refused, soft_refused, ask_refused, broken_refused};
@@ -92,7 +92,7 @@ impl<'a> Tables<'a> {
     /// Adds the hard clause behind the others.
     pub fn add_hard(&mut self, clause: &[i32]) -> Result<(), Refusal>
         ensures refusal { result_err result ≡ hard_refused (meaning_of self.old) clause.now }
-        ensures meaning { meaning_of self.new ≡ unless_refused (result_err result) (with_hard (meaning_of self.old) clause.now) (meaning_of self.old) }
+        ensures meaning { Changes result (λ m. with_hard m clause.now) (meaning_of self.old) (meaning_of self.new) }
         ensures limited { Limited (meaning_of self.new) }
     {
         self.add(ClauseKind::Hard, clause)
@@ -101,7 +101,7 @@ impl<'a> Tables<'a> {
     /// Adds the soft clause behind the others.
     pub fn add_soft(&mut self, clause: &[i32]) -> Result<(), Refusal>
         ensures refusal { result_err result ≡ soft_refused (meaning_of self.old) clause.now }
-        ensures meaning { meaning_of self.new ≡ unless_refused (result_err result) (with_soft (meaning_of self.old) clause.now) (meaning_of self.old) }
+        ensures meaning { Changes result (λ m. with_soft m clause.now) (meaning_of self.old) (meaning_of self.new) }
         ensures limited { Limited (meaning_of self.new) }
     {
         let kind = self.next_soft();
@@ -130,7 +130,7 @@ impl<'a> Tables<'a> {
     fn add(&mut self, kind: ClauseKind, clause: &[i32]) -> Result<(), Refusal>
         requires { IsTrue (well_numbered (length (softs self.old.entries)) kind) }
         ensures refusal { result_err result ≡ refused_as kind (meaning_of self.old) clause.now }
-        ensures meaning { meaning_of self.new ≡ unless_refused (result_err result) (with_clause kind (meaning_of self.old) clause.now) (meaning_of self.old) }
+        ensures meaning { Changes result (λ m. with_clause kind m clause.now) (meaning_of self.old) (meaning_of self.new) }
         ensures limited { Limited (meaning_of self.new) }
     {
         // The proof learns here what always holds of the tables.

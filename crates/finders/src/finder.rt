@@ -1,7 +1,7 @@
 //! The trait `Finder`. Whatever stands behind it, its calls are told by its meaning alone.
 ghost use Rattle.std.specs.Prelude.{◌≡◌, length};
 ghost use Rattle.std.specs.Result.{result_err};
-ghost use Rattle.terms.specs.Earliest.{unless_refused};
+ghost use Rattle.terms.specs.Earliest.{Changes};
 ghost use Rattle.finders.specs.Meanings.{FinderMeaning, Limited, with_hard, with_soft};
 ghost use Rattle.finders.specs.Refused.{hard_refused, soft_refused, ask_refused, broken_refused};
 ghost use Rattle.finders.specs.Questions.{Asked, ToldBroken};
@@ -41,12 +41,12 @@ pub trait Finder {
     /// Admits from now on only what satisfies the clause.
     fn add_hard(&mut self, clause: &[i32]) -> Result<(), Refusal>
         ensures refusal { result_err result ≡ hard_refused (meaning self.old) clause.now }
-        ensures meaning { meaning self.new ≡ unless_refused (result_err result) (with_hard (meaning self.old) clause.now) (meaning self.old) };
+        ensures meaning { Changes result (λ m. with_hard m clause.now) (meaning self.old) (meaning self.new) };
 
     /// Puts the clause last among the soft clauses.
     fn add_soft(&mut self, clause: &[i32]) -> Result<(), Refusal>
         ensures refusal { result_err result ≡ soft_refused (meaning self.old) clause.now }
-        ensures meaning { meaning self.new ≡ unless_refused (result_err result) (with_soft (meaning self.old) clause.now) (meaning self.old) };
+        ensures meaning { Changes result (λ m. with_soft m clause.now) (meaning self.old) (meaning self.new) };
 
     /// Looks for an admitted assignment that satisfies all soft clauses of the set.
     /// Only a model is written into the buffer, into the first n bytes.

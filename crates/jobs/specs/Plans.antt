@@ -5,7 +5,8 @@ use Rattle.weights.specs.Kinds.{Kind}
 use Rattle.finders.specs.Meanings.{FinderMeaning}
 use Rattle.finders.specs.declared.finder.Answer.{Answer}
 use Rattle.finders.specs.declared.finder.Answer.TheVariants.{Model}
-use Rattle.bracket.specs.States.{Plan, same}
+use Rattle.bracket.specs.Changes.{priced, repriced}
+use Rattle.bracket.specs.States.{Plan, State, same}
 use Rattle.jobs.specs.declared.play.Kept.{Kept}
 
 -- the finder admits the assignment
@@ -25,6 +26,14 @@ AdmittedModel f answer bytes = answer ≡ Model → IsTrue (admitted_by f (take 
 abbrev pub plan : {W : Type 0} (K : Kind W) → ℕ → Option (Kept W) → Option (Plan K.V)
 plan K n None = None
 plan K n (Some kept) = Some (record { values = take n kept.values; cost = K.value kept.cost })
+
+-- the weight is what the assignment in the first n bytes costs
+abbrev pub Costs : {W : Type 0} (K : Kind W) → State K → List ℕ → W → Type 0
+Costs K s bytes w = K.value w ≡ (priced s (take s.finder.n bytes)).cost
+
+-- what is kept, with its cost worked out anew
+abbrev pub PricedAnew : {W : Type 0} (K : Kind W) → State K → Option (Kept W) → Type 0
+PricedAnew K s kept = (plan K s.finder.n kept ≡ (repriced s).kept) × IsTrue (kept_admitted_by s.finder (plan K s.finder.n kept))
 
 -- what is kept costs that
 abbrev pub is_ceiling : {W : Type 0} (K : Kind W) → K.V → Option (Plan K.V) → Bool

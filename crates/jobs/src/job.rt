@@ -1,9 +1,9 @@
 //! The job: its opening, its calls, and what it tells.
 ghost use Rattle.std.specs.Prelude.{◌≡◌, length, IfOk, option_map};
 ghost use Rattle.std.specs.Result.{result_err};
-ghost use Rattle.terms.specs.Earliest.{unless_refused};
+ghost use Rattle.terms.specs.Earliest.{Changes};
 ghost use Rattle.bracket.specs.Brackets.{KeepsBracket, OpensBracket};
-ghost use Rattle.bracket.specs.States.{opened_on, status, are_fresh};
+ghost use Rattle.bracket.specs.States.{opened_on, status, ceiling, are_fresh};
 ghost use Rattle.bracket.specs.Steps.{Step, hard as hard_call, soft as soft_call, round as round_call};
 ghost use Rattle.jobs.specs.Copies.{copy_refused, copied_over};
 ghost use Rattle.jobs.specs.Plans.{plan};
@@ -110,7 +110,7 @@ impl<F: Finder, C: CoverMaker> Job<F, C> {
     /// The floor, and the ceiling if an assignment is kept.
     pub fn bracket(&self) -> Bracket<C::Weight>
         ensures floor { C.Weight.kind.value result.floor ≡ (state self.now).floor }
-        ensures ceiling { option_map C.Weight.kind.value result.ceiling ≡ option_map (λ p. p.cost) (state self.now).kept }
+        ensures ceiling { option_map C.Weight.kind.value result.ceiling ≡ ceiling (state self.now) }
     {
         Bracket {
             floor: self.floor(),
@@ -121,7 +121,7 @@ impl<F: Finder, C: CoverMaker> Job<F, C> {
     /// Copies the kept assignment into the first n bytes.
     pub fn copy_kept(&self, buffer: &mut [u8]) -> Result<(), Refusal>
         ensures refusal { result_err result ≡ copy_refused (state self.now) buffer.old }
-        ensures buffer { buffer.new ≡ unless_refused (result_err result) (copied_over (state self.now).kept buffer.old) buffer.old }
+        ensures buffer { Changes result (copied_over (state self.now).kept) buffer.old buffer.new }
     {
         let n = self.variable_count();
         if buffer.len() < n {

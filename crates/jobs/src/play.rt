@@ -1,9 +1,8 @@
 //! A job on fresh parts: what it keeps, and what it tells.
 ghost use Rattle.std.specs.Prelude.{◌≡◌, length, take, true, IsTrue, IfOk, None};
 ghost use Rattle.std.specs.Result.{result_err};
-ghost use Rattle.bracket.specs.Changes.{priced};
 ghost use Rattle.bracket.specs.States.{opened_on, status, are_fresh};
-ghost use Rattle.jobs.specs.Plans.{admitted_by, kept_admitted_by, plan};
+ghost use Rattle.jobs.specs.Plans.{Costs, admitted_by, kept_admitted_by, plan};
 
 mod clauses;
 mod rounds;
@@ -90,7 +89,7 @@ impl<F: Finder, C: CoverMaker> Play<F, C> {
     fn cost_of(&self, values: &[u8; MOST_VARIABLES]) -> Result<C::Weight, Refusal>
         requires { IsTrue (admitted_by (state self.now).finder (take (state self.now).finder.n values.now)) }
         ensures refusal { result_err result ≡ None }
-        ensures cost { IfOk result (λ w. C.Weight.kind.value w ≡ (priced (state self.now) (take (state self.now).finder.n values.now)).cost) }
+        ensures cost { IfOk result (Costs C.Weight.kind (state self.now) values.now) }
     {
         self.maker.cost(self.finder.broken(values)?)
     }

@@ -10,6 +10,10 @@ use Rattle.makers.specs.Meanings.{MakerMeaning}
 abbrev pub is_cover : {W : Type 0} → MakerMeaning W → ℕ → Bool
 is_cover m set = below (length m.weights) set && list_all (intersect set) m.cores
 
+-- the weight is what the members of the set weigh together
+abbrev pub Costs : {W : Type 0} → Kind W → MakerMeaning W → ℕ → W → Type 0
+Costs K m set w = K.value w ≡ cost K m.weights set
+
 -- each cover that is part of the set has the number k
 abbrev pub Needed : {W : Type 0} → MakerMeaning W → ℕ → ℕ → Type 0
 Needed m set k = (other : ℕ) → is_cover m other ≡ true → subset other set ≡ true → member other k ≡ true

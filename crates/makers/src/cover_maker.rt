@@ -1,10 +1,9 @@
 //! The trait `CoverMaker`. Whatever stands behind it, its calls are told by its meaning alone.
 ghost use Rattle.std.specs.Prelude.{◌≡◌, true, length, IfOk};
 ghost use Rattle.std.specs.Result.{result_err};
-ghost use Rattle.terms.specs.Earliest.{unless_refused};
-ghost use Rattle.weights.specs.Costs.{cost};
+ghost use Rattle.terms.specs.Earliest.{Changes};
 ghost use Rattle.makers.specs.Meanings.{MakerMeaning, Limited, with_weight, with_core};
-ghost use Rattle.makers.specs.Covers.{is_cover, Least, AlsoMeets};
+ghost use Rattle.makers.specs.Covers.{Costs, is_cover, Least, AlsoMeets};
 ghost use Rattle.makers.specs.Refused.{weight_refused, core_refused, cost_refused};
 
 use terms::{Refusal, SoftSet};
@@ -32,18 +31,18 @@ pub trait CoverMaker {
     /// Puts the weight last.
     fn add_weight(&mut self, weight: Self::Weight) -> Result<(), Refusal>
         ensures refusal { result_err result ≡ weight_refused Self.Weight.kind (meaning self.old) weight }
-        ensures meaning { meaning self.new ≡ unless_refused (result_err result) (with_weight (meaning self.old) weight) (meaning self.old) };
+        ensures meaning { Changes result (λ m. with_weight m weight) (meaning self.old) (meaning self.new) };
 
     /// Keeps the core, unless a kept one is part of it, and drops the kept ones that it is part of.
     fn add_core(&mut self, core: SoftSet) -> Result<(), Refusal>
         ensures refusal { result_err result ≡ core_refused (meaning self.old) core }
-        ensures meaning { meaning self.new ≡ unless_refused (result_err result) (with_core (meaning self.old) core) (meaning self.old) }
+        ensures meaning { Changes result (λ m. with_core m core) (meaning self.old) (meaning self.new) }
         ensures covers { IfOk result (λ _. AlsoMeets (meaning self.old) core (meaning self.new)) };
 
     /// What the members of the set weigh together.
     fn cost(&self, set: SoftSet) -> Result<Self::Weight, Refusal>
         ensures refusal { result_err result ≡ cost_refused (meaning self.now) set }
-        ensures exact { IfOk result (λ w. Self.Weight.kind.value w ≡ cost Self.Weight.kind (meaning self.now).weights set) };
+        ensures exact { IfOk result (Costs Self.Weight.kind (meaning self.now) set) };
 
     /// Some cover, quickly.
     fn cover(&self) -> SoftSet

@@ -1,9 +1,9 @@
 //! How a job takes clauses.
-ghost use Rattle.std.specs.Prelude.{◌≡◌, length, IsTrue, IfOk, None, if◌then◌else◌};
+ghost use Rattle.std.specs.Prelude.{◌≡◌, length, IfOk, None, if◌then◌else◌};
 ghost use Rattle.std.specs.Result.{result_err};
-ghost use Rattle.bracket.specs.Changes.{unbroken, repriced};
+ghost use Rattle.bracket.specs.Changes.{unbroken};
 ghost use Rattle.bracket.specs.Steps.{Step, hard as hard_call, soft as soft_call};
-ghost use Rattle.jobs.specs.Plans.{kept_admitted_by, plan};
+ghost use Rattle.jobs.specs.Plans.{PricedAnew};
 
 use super::{Kept, Play};
 use bracket::Phase;
@@ -58,8 +58,7 @@ impl<F: Finder, C: CoverMaker> Play<F, C> {
     /// What is kept, with its cost worked out anew.
     fn repriced(&self) -> Result<Option<Kept<C::Weight>>, Refusal>
         ensures refusal { result_err result ≡ None }
-        ensures kept { IfOk result (λ kept. plan C.Weight.kind (state self.now).finder.n kept ≡ (repriced (state self.now)).kept) }
-        ensures admitted { IfOk result (λ kept. IsTrue (kept_admitted_by (state self.now).finder (plan C.Weight.kind (state self.now).finder.n kept))) }
+        ensures kept { IfOk result (PricedAnew C.Weight.kind (state self.now)) }
     {
         let Some(kept) = self.kept else {
             return Ok(None);

@@ -1,7 +1,7 @@
 //! How a job plays rounds.
 ghost use Rattle.std.specs.Prelude.{◌≡◌, length, take, true, IsTrue, IfOk, None};
 ghost use Rattle.std.specs.Result.{result_err};
-ghost use Rattle.terms.specs.Earliest.{unless_refused};
+ghost use Rattle.terms.specs.Earliest.{Changes};
 ghost use Rattle.terms.specs.Masks.{Below};
 ghost use Rattle.finders.specs.Questions.{Asked};
 ghost use Rattle.bracket.specs.Changes.{after_model};
@@ -114,7 +114,7 @@ impl<F: Finder, C: CoverMaker> Play<F, C> {
     ) -> Result<(), Refusal>
         requires { AdmittedModel (state self.old).finder answer values }
         ensures refusal { result_err result ≡ answer_refused (state self.old) answer }
-        ensures state { state self.new ≡ unless_refused (result_err result) (after_answer (state self.old) (C.Weight.kind.value floor) answer values) (state self.old) }
+        ensures state { Changes result (λ s. after_answer s (C.Weight.kind.value floor) answer values) (state self.old) (state self.new) }
     {
         match (self.phase, answer) {
             (Phase::Quick, Answer::Model) => {
