@@ -305,9 +305,6 @@ module _ {W : Type 0} {K : Kind W} (laws : Laws K) (first : State K) where
     rounds_are_few = grind (arith, g.1, pow-suc 2 (length (softs log)));
   }
 
-  pub holds_now : (log : Log K) (s : State K) → Logged first log s → Holds first log s
-  holds_now log s l = good_holds log s (good log s l)
-
   pub stands : (log : Log K) (s : State K) → Logged first log s → BracketStands first log
   stands log s (opened o) = good_holds [] first (good [] first (opened o))
   stands log s (called {log = past} {s = before} {t = t} {c = c} {r = r} l e) =

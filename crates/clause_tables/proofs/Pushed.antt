@@ -10,41 +10,43 @@ use Rattle.std.proofs.Math.Seq.{drop-append_seam, take-length}
 use Rattle.std.proofs.Math.Bool.{and-true}
 use Rattle.std.proofs.lemmas.Bool.{or_parts, and_from, and_parts, ltb-false, eqb-false}
 use Rattle.terms.specs.Clauses.{satisfied_by, FirstBad}
+use Rattle.terms.specs.Earliest.{earliest}
+use Rattle.terms.specs.declared.limits.TheConstants.{MOST_LITERALS}
 use Rattle.terms.proofs.ClauseLaws.{all_good}
 use Rattle.terms.proofs.RefusalLaws.{passes}
 use Rattle.finders.specs.Meanings.{FinderMeaning, Limited}
-use Rattle.finders.specs.Refused.{too_long, has_bad, no_place}
+use Rattle.finders.specs.Refused.{too_long, has_bad, no_soft_place, no_place, clause_tests}
 use Rattle.clause_tables.specs.Entries.{Entry, entry, hards, softs, hard_part, soft_part, satisfied_all, well_numbered, softs_after, numbered, LiesWithin}
-use Rattle.clause_tables.specs.Table.{Table, meaning_of, lacks_soft_place, refused_as, with_clause, with_entry}
+use Rattle.clause_tables.specs.Table.{Table, meaning_of, refused_as, with_clause, with_entry}
 use Rattle.clause_tables.specs.declared.records.ClauseKind.{ClauseKind}
 use Rattle.clause_tables.specs.declared.records.ClauseKind.TheVariants.{Hard, Soft}
 use Rattle.clause_tables.specs.declared.records.ClauseRecord.{ClauseRecord}
 
 -- ---- what an accepted clause is known to be
 pub record Accepted (k : ClauseKind) (m : FinderMeaning) (c : List ℤ) : Type 0 where
-  pub short : length c ≤ 64
+  pub short : length c ≤ MOST_LITERALS
   pub proper : FirstBad m.n c None
   pub place : 0 < m.free_clauses
   pub literals : length c ≤ m.free_literals
   pub soft_place : softs_after 0 k ≤ m.free_softs
 
-soft_room : (k : ClauseKind) (m : FinderMeaning) → lacks_soft_place k m ≡ false → softs_after 0 k ≤ m.free_softs
-soft_room Hard m e = omega arith
-soft_room (Soft i) m e = omega (arith, eqb-false m.free_softs 0 e)
-
-pub accepted : (k : ClauseKind) (m : FinderMeaning) (c : List ℤ) → refused_as k m c ≡ None → Accepted k m c
-accepted k m c e =
+-- where the tests of every clause passed, and there is a soft place for a soft one
+passed : (k : ClauseKind) (m : FinderMeaning) (c : List ℤ) → earliest (clause_tests m c) ≡ None → softs_after 0 k ≤ m.free_softs → Accepted k m c
+passed k m c e soft =
     let long = passes (too_long c) _ _ e in
     let bad = passes (has_bad m.n c) _ _ long.1 in
-    let soft = passes (lacks_soft_place k m) _ _ bad.1 in
-    let room = or_parts (eqb m.free_clauses 0) (ltb m.free_literals (length c)) (passes (no_place m c) _ _ soft.1).0 in
+    let room = or_parts (eqb m.free_clauses 0) (ltb m.free_literals (length c)) (passes (no_place m c) _ _ bad.1).0 in
     record {
-      short = ltb-false 64 (length c) long.0;
+      short = ltb-false MOST_LITERALS (length c) long.0;
       proper = all_good m.n c bad.0;
       place = omega (arith, eqb-false m.free_clauses 0 room.0);
       literals = ltb-false m.free_literals (length c) room.1;
-      soft_place = soft_room k m soft.0;
+      soft_place = soft;
     }
+
+pub accepted : (k : ClauseKind) (m : FinderMeaning) (c : List ℤ) → refused_as k m c ≡ None → Accepted k m c
+accepted Hard m c e = passed Hard m c e (omega arith)
+accepted (Soft i) m c e = let p = passes (no_soft_place m) _ _ e in passed (Soft i) m c p.1 (omega (arith, eqb-false m.free_softs 0 p.0))
 
 -- ---- the clauses with the literals of one more behind those in use
 -- a clause within the literals in use reads as before

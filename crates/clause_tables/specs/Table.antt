@@ -1,11 +1,8 @@
 -- What the tables of a finder show, what that means, and how a clause more changes it.
 use Rattle.std.specs.Prelude.{ℕ, ◌-◌, min, Bool, false, List, [], ◌∷◌, ◌++◌, length, ℤ, Option}
-use Rattle.terms.specs.Earliest.{earliest}
-use Rattle.terms.specs.declared.refusals.Part.TheVariants.{Finder}
 use Rattle.terms.specs.declared.refusals.Refusal.{Refusal}
-use Rattle.terms.specs.declared.refusals.Refusal.TheVariants.{ClauseTooLong, BadLiteral, NoSoftPlace, NoClausePlace}
 use Rattle.finders.specs.Meanings.{FinderMeaning, fresh, with_hard, with_soft}
-use Rattle.finders.specs.Refused.{too_long, has_bad, no_soft_place, no_place}
+use Rattle.finders.specs.Refused.{hard_refused, soft_refused}
 use Rattle.clause_tables.specs.Entries.{Entry, hards, softs, satisfied_all, softs_after}
 use Rattle.clause_tables.specs.declared.records.ClauseKind.{ClauseKind}
 use Rattle.clause_tables.specs.declared.records.ClauseKind.TheVariants.{Hard, Soft}
@@ -43,14 +40,9 @@ with_entry t e = record t {
   free_literals = t.free_literals - length e.clause;
 }
 
-abbrev pub lacks_soft_place : ClauseKind → FinderMeaning → Bool
-lacks_soft_place Hard m = false
-lacks_soft_place (Soft k) m = no_soft_place m
-
--- at the two kinds these are what every finder refuses hard and soft clauses for
 abbrev pub refused_as : ClauseKind → FinderMeaning → List ℤ → Option Refusal
-refused_as k m c =
-    earliest ((too_long c, ClauseTooLong) ∷ (has_bad m.n c, BadLiteral) ∷ (lacks_soft_place k m, NoSoftPlace Finder) ∷ (no_place m c, NoClausePlace) ∷ [])
+refused_as Hard m c = hard_refused m c
+refused_as (Soft k) m c = soft_refused m c
 
 abbrev pub with_clause : ClauseKind → FinderMeaning → List ℤ → FinderMeaning
 with_clause Hard m c = with_hard m c

@@ -29,12 +29,15 @@ no_soft_place m = m.free_softs == 0
 abbrev pub no_place : FinderMeaning → List ℤ → Bool
 no_place m c = m.free_clauses == 0 || nat_lt m.free_literals (length c)
 
+-- what is tested of every clause
+abbrev pub clause_tests : FinderMeaning → List ℤ → List (Bool × Refusal)
+clause_tests m c = (too_long c, ClauseTooLong) ∷ (has_bad m.n c, BadLiteral) ∷ (no_place m c, NoClausePlace) ∷ []
+
 abbrev pub hard_refused : FinderMeaning → List ℤ → Option Refusal
-hard_refused m c = earliest ((too_long c, ClauseTooLong) ∷ (has_bad m.n c, BadLiteral) ∷ (no_place m c, NoClausePlace) ∷ [])
+hard_refused m c = earliest (clause_tests m c)
 
 abbrev pub soft_refused : FinderMeaning → List ℤ → Option Refusal
-soft_refused m c =
-    earliest ((too_long c, ClauseTooLong) ∷ (has_bad m.n c, BadLiteral) ∷ (no_soft_place m, NoSoftPlace Finder) ∷ (no_place m c, NoClausePlace) ∷ [])
+soft_refused m c = earliest ((no_soft_place m, NoSoftPlace Finder) ∷ clause_tests m c)
 
 -- ---- questions
 abbrev pub too_short : FinderMeaning → List ℕ → Bool
