@@ -6,6 +6,7 @@ use Rattle.finders.specs.Refused.{hard_refused, soft_refused}
 use Rattle.clause_tables.specs.Entries.{Entry, hards, softs, satisfied_all, softs_after}
 use Rattle.clause_tables.specs.declared.records.ClauseKind.{ClauseKind}
 use Rattle.clause_tables.specs.declared.records.ClauseKind.TheVariants.{Hard, Soft}
+use Rattle.clause_tables.specs.declared.records.ClauseRecord.{ClauseRecord}
 use Rattle.clause_tables.specs.declared.room.Room.{Room}
 
 pub record Table : Type 0 where
@@ -27,9 +28,9 @@ meaning_of t = record {
   free_literals = t.free_literals;
 }
 
--- what is made on tables of so many records and literals, in this room
-abbrev pub made_in : Room → ℕ → ℕ → FinderMeaning
-made_in r records literals = fresh r.variables r.softs (min records r.places) (min literals r.places)
+-- what is made on these tables, in this room
+abbrev pub made_in : Room → List ClauseRecord → List ℤ → FinderMeaning
+made_in r records literals = fresh r.variables r.softs (min (length records) r.places) (min (length literals) r.places)
 
 -- ---- adding a clause of either kind
 abbrev pub with_entry : Table → Entry → Table

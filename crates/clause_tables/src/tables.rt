@@ -53,7 +53,7 @@ impl<'a> Tables<'a> {
         n: usize,
         most: usize,
     ) -> Self
-        ensures meaning { meaning_of result ≡ made_in (room (min most MOST_VARIABLES) n) (length records.old) (length literals.old) }
+        ensures meaning { meaning_of result ≡ made_in (room (min most MOST_VARIABLES) n) records.old literals.old }
         ensures limited { Limited (meaning_of result) }
     {
         let room = Room::new(n, most.min(MOST_VARIABLES));

@@ -36,7 +36,7 @@ impl<'a> CountThrough<'a> {
     /// A finder that admits every assignment. The lengths of the tables are its places.
     /// With more than `MOST_COUNTED` variables it has no variables and no places.
     pub fn new(records: &'a mut [ClauseRecord], literals: &'a mut [i32], n: usize) -> Self
-        ensures { finder_meaning result ≡ made_in (room MOST_COUNTED n) (length records.old) (length literals.old) }
+        ensures { finder_meaning result ≡ made_in (room MOST_COUNTED n) records.old literals.old }
     {
         CountThrough {
             tables: Tables::new(records, literals, n, MOST_COUNTED),
