@@ -28,5 +28,5 @@ levels_kind = record {
 }
 
 -- the three numbers in base ten, parted by commas
-abbrev pub with_commas : Levels → List ℕ
-with_commas w = decimal w.first ++ (44 ∷ (decimal w.second ++ (44 ∷ decimal w.third)))
+abbrev pub with_commas : ℕ × ℕ × ℕ → List ℕ
+with_commas t = decimal t.0 ++ 44 ∷ (decimal t.1 ++ 44 ∷ decimal t.2)

@@ -77,7 +77,7 @@ impl WeightKind for Levels {
 }
 
 impl fmt::Display for Levels {
-    ghost output = { λ w. Some (with_commas w) };
+    ghost output = { λ w. Some (with_commas (w.first, w.second, w.third)) };
 
     fn fmt<W: fmt::Write>(&self, f: &mut fmt::Formatter<W>) -> fmt::Result {
         write!(f, "{},{},{}", self.first, self.second, self.third)
