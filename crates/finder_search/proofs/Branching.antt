@@ -4,26 +4,26 @@ use Rattle.std.proofs.lemmas.Bool.{both_ways, and_from, or_cases, or_left, or_ri
 use Rattle.std.proofs.lemmas.List.{get_or-set_same, get_or-set_other}
 use Rattle.terms.specs.Masks.{member, Subset}
 use Rattle.clause_tables.specs.Table.{Table}
-use Rattle.finder_search.specs.Sets.{has}
-use Rattle.finder_search.specs.Searching.{Serves, bit, Says, Follows, Excludes}
+use Rattle.finder_search.specs.VariableSets.{has}
+use Rattle.finder_search.specs.Searching.{Satisfies, bit, Says, Follows, Excludes}
 use Rattle.finder_search.specs.declared.reasons.Reason.{Reason}
-use Rattle.finder_search.proofs.Sounding.{follows_more}
-use Rattle.finder_search.proofs.Reasoning.{serves_fewer}
+use Rattle.finder_search.proofs.Soundness.{follows_more}
+use Rattle.finder_search.proofs.Reasoning.{satisfies_fewer}
 
 module _ (t : Table) (wish : ℕ) (cs : List (Option Bool)) (k : ℕ) (l : k < length cs) where
-  -- a reason without the choice excludes as much where the choice is not made
-  pub excludes_unused : (b : Bool) (r : Reason) → has r.choices k ≡ false → Excludes t wish (set cs k (Some b)) r → Excludes t wish cs r
+  -- a reason without the decision excludes as much where the decision is not made
+  pub excludes_unused : (b : Bool) (r : Reason) → has r.decisions k ≡ false → Excludes t wish (set cs k (Some b)) r → Excludes t wish cs r
   excludes_unused b r unused h = record {
     among = h.among;
-    none = λ a s f. h.none a s (follows_more cs k b r.choices a l (λ e. absurd (both_ways (has r.choices k) unused e)) f);
+    none = λ a s f. h.none a s (follows_more cs k b r.decisions a l (λ e. absurd (both_ways (has r.decisions k) unused e)) f);
   }
 
-  -- without the choice itself, the reason is of those assignments that have this value
-  excludes_with : (b : Bool) (q r : Reason) → Subset q.softs r.softs → ((v : ℕ) → has q.choices v ≡ true → k ≢ v → has r.choices v ≡ true)
-      → Excludes t wish (set cs k (Some b)) q → (a : List ℕ) → Serves t r.softs a → Follows cs r.choices a → bit a k ≡ b → ⊥
+  -- without the decision itself, the reason is of those assignments that have this value
+  excludes_with : (b : Bool) (q r : Reason) → Subset q.softs r.softs → ((v : ℕ) → has q.decisions v ≡ true → k ≢ v → has r.decisions v ≡ true)
+      → Excludes t wish (set cs k (Some b)) q → (a : List ℕ) → Satisfies t r.softs a → Follows cs r.decisions a → bit a k ≡ b → ⊥
   unfolding Follows
   excludes_with b q r softs more h a s f own =
-      h.none a (serves_fewer t q.softs r.softs a softs s) (λ v e.
+      h.none a (satisfies_fewer t q.softs r.softs a softs s) (λ v e.
       ⊎_elim
       (λ (same : v ≡ k). follows_here v same)
       (λ ne. subst (λ o. Says o (bit a v)) (sym (get_or-set_other cs k v (Some b) None ne)) (f v (more v e (λ z. ne (sym z)))))
@@ -33,18 +33,18 @@ module _ (t : Table) (wish : ℕ) (cs : List (Option Bool)) (k : ℕ) (l : k < l
       follows_here v same = subst (λ j. Says (get_or (set cs k (Some b)) j None) (bit a j)) (sym same)
           (subst (λ o. Says o (bit a k)) (sym (get_or-set_same cs k (Some b) None l)) own)
 
-  -- both reasons together, without the choice
-  pub excludes_both : (b c : Bool) (p q r : Reason) → not b ≡ c → ((v : ℕ) → has r.choices v ≡ ((has p.choices v || has q.choices v) && not (eqb k v)))
+  -- both reasons together, without the decision
+  pub excludes_both : (b c : Bool) (p q r : Reason) → not b ≡ c → ((v : ℕ) → has r.decisions v ≡ ((has p.decisions v || has q.decisions v) && not (eqb k v)))
       → ((j : ℕ) → member r.softs j ≡ (member p.softs j || member q.softs j))
       → Excludes t wish (set cs k (Some b)) p → Excludes t wish (set cs k (Some c)) q → Excludes t wish cs r
-  excludes_both b c p q r other choices softs hp hq = record {
+  excludes_both b c p q r other decisions softs hp hq = record {
     among = λ j e. ⊎_elim (hp.among j) (hq.among j) (or_cases (member p.softs j) (member q.softs j) (sym (softs j) ∙ e));
     none = λ a s f.
         ⊎_elim
         (λ e. excludes_with b p r (λ j m. softs j ∙ or_left (member p.softs j) (member q.softs j) m)
-        (λ v m ne. choices v ∙ and_from (has p.choices v || has q.choices v) (not (eqb k v)) (or_left (has p.choices v) (has q.choices v) m) (ap not (ne_eqb k v ne))) hp a s f e)
+        (λ v m ne. decisions v ∙ and_from (has p.decisions v || has q.decisions v) (not (eqb k v)) (or_left (has p.decisions v) (has q.decisions v) m) (ap not (ne_eqb k v ne))) hp a s f e)
         (λ e. excludes_with c q r (λ j m. softs j ∙ or_right (member p.softs j) (member q.softs j) m)
-        (λ v m ne. choices v ∙ and_from (has p.choices v || has q.choices v) (not (eqb k v)) (or_right (has p.choices v) (has q.choices v) m) (ap not (ne_eqb k v ne))) hq a s f e)
+        (λ v m ne. decisions v ∙ and_from (has p.decisions v || has q.decisions v) (not (eqb k v)) (or_right (has p.decisions v) (has q.decisions v) m) (ap not (ne_eqb k v ne))) hq a s f e)
         (either (bit a k) b c other);
   }
     where

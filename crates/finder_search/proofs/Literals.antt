@@ -1,10 +1,10 @@
--- Literals under slots, and in assignments.
+-- Literals under trail, and in assignments.
 use Rattle.std.proofs.Common.{◌≡◌, ◌≢◌, ℕ, zero, suc, ◌-◌, ◌<◌, Bool, true, false, not, eqb, ltb, List, get_or, ℤ, pos, negsuc, refl, ap, ◌∙◌, arith}
 use Rattle.std.proofs.lemmas.Bool.{both_ways, or_parts, eq-eqb, ltb-true, ltb-false}
 use Rattle.std.proofs.lemmas.List.{get_or_default}
 use Rattle.std.proofs.lemmas.List.Sums.{AllPass-from_list_all}
 use Rattle.terms.specs.Clauses.{Assignment, true_in, variable, bad_literal}
-use Rattle.finder_search.specs.Slots.{place, positive, negated, same}
+use Rattle.finder_search.specs.Trail.{place, positive, negated, same}
 use Rattle.finder_search.specs.Searching.{bit}
 
 -- ---- a literal that is not bad

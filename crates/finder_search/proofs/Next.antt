@@ -4,7 +4,7 @@ use Rattle.std.specs.List.{list_all}
 use Rattle.clause_tables.specs.Entries.{Entry}
 use Rattle.clause_tables.specs.Table.{Table}
 use Rattle.finder_search.specs.Searching.{OpenIn, is_met, is_quiet}
-use Rattle.finder_search.specs.declared.slots.Slot.{Slot}
+use Rattle.finder_search.specs.declared.trail.Slot.{Slot}
 
 -- each clause is quiet
 abbrev pub AllQuiet : ℕ → List Slot → List Entry → Type 0

@@ -14,8 +14,8 @@ use Rattle.terms.specs.Clauses.{bad_literal, variable}
 use Rattle.clause_tables.specs.Entries.{Entry, IsProper, literal_count}
 use Rattle.clause_tables.specs.Table.{Table}
 use Rattle.clause_tables.specs.Wanted.{wanted}
-use Rattle.finder_search.specs.Slots.{row}
-use Rattle.finder_search.specs.Occurring.{AddsClause, chain, has_number, numbers_with, occurs, stands_in}
+use Rattle.finder_search.specs.Trail.{row}
+use Rattle.finder_search.specs.Occurrences.{AddsClause, chain, has_number, numbers_with, occurs, occurs_in}
 use Rattle.finder_search.specs.declared.occurrences.Node.{Node}
 use Rattle.finder_search.specs.declared.occurrences.Occurrences.{Occurrences}
 use Rattle.finder_search.proofs.Literals.{place_within}
@@ -112,21 +112,21 @@ pushed hs ns used number r x l is good fine long room rooted =
 -- ---- the clauses that are still to come, where the first of them has this number
 abbrev pub occurs_from : ℕ → ℕ → ℤ → List Entry → ℕ → Bool
 occurs_from first set l [] k = false
-occurs_from first set l (e ∷ es) k = (eqb first k && (wanted set e.kind && stands_in l e)) || occurs_from (suc first) set l es k
+occurs_from first set l (e ∷ es) k = (eqb first k && (wanted set e.kind && occurs_in l e)) || occurs_from (suc first) set l es k
 
 none_before : (s set : ℕ) (l : ℤ) (es : List Entry) (k : ℕ) → k < s → occurs_from s set l es k ≡ false
 none_before s set l [] k h = refl
 none_before s set l (e ∷ es) k h =
-    ap₂ (λ b c. (b && (wanted set e.kind && stands_in l e)) || c) (ne_eqb s k (λ z. omega arith)) (none_before (suc s) set l es k (omega arith))
+    ap₂ (λ b c. (b && (wanted set e.kind && occurs_in l e)) || c) (ne_eqb s k (λ z. omega arith)) (none_before (suc s) set l es k (omega arith))
 
 occurs_at : (s set : ℕ) (l : ℤ) (es : List Entry) (k : ℕ) → occurs_from s set l es (s + k) ≡ occurs set l es k
 occurs_at s set l [] k = refl
 occurs_at s set l (e ∷ es) zero =
-    ap₂ (λ b c. (b && (wanted set e.kind && stands_in l e)) || c) (eq-eqb s (s + 0) (omega arith)) (none_before (suc s) set l es (s + 0) (omega arith))
-    ∙ or-false (wanted set e.kind && stands_in l e)
+    ap₂ (λ b c. (b && (wanted set e.kind && occurs_in l e)) || c) (eq-eqb s (s + 0) (omega arith)) (none_before (suc s) set l es (s + 0) (omega arith))
+    ∙ or-false (wanted set e.kind && occurs_in l e)
 occurs_at s set l (e ∷ es) (suc k) =
     let further : s + suc k ≡ suc s + k = omega arith in
-    ap₂ (λ b c. (b && (wanted set e.kind && stands_in l e)) || c) (ne_eqb s (s + suc k) (λ z. omega arith)) (ap (occurs_from (suc s) set l es) further ∙ occurs_at (suc s) set l es k)
+    ap₂ (λ b c. (b && (wanted set e.kind && occurs_in l e)) || c) (ne_eqb s (s + suc k) (λ z. omega arith)) (ap (occurs_from (suc s) set l es) further ∙ occurs_at (suc s) set l es k)
 
 pub occurs_all : (set : ℕ) (l : ℤ) (es : List Entry) (k : ℕ) → occurs_from 0 set l es k ≡ occurs set l es k
 occurs_all set l es k = ap (occurs_from 0 set l es) (let z : k ≡ 0 + k = omega arith in z) ∙ occurs_at 0 set l es k
@@ -190,7 +190,7 @@ coming_more t set number next o p e rest es narrow coming first is used added = 
   short = omega (arith, so.short, sum_by-cons (λ x. length x.clause) e rest);
   told = λ l good k.
       ap₂ (λ b j. b || occurs_from j set l rest k) (added l (good_more t.n 256 l narrow good) k) (let z : next ≡ suc number = omega arith in z)
-      ∙ or_assoc (has_number (numbers_with o l) k) (eqb number k && (wanted set e.kind && stands_in l e)) (occurs_from (suc number) set l rest k)
+      ∙ or_assoc (has_number (numbers_with o l) k) (eqb number k && (wanted set e.kind && occurs_in l e)) (occurs_from (suc number) set l rest k)
       ∙ so.told l good k;
 }
 

@@ -1,8 +1,8 @@
-pub mod Sets
-pub mod Slots
-pub mod Standings
+pub mod VariableSets
+pub mod Trail
+pub mod ClauseStatus
 pub mod Reasons
-pub mod Occurring
+pub mod Occurrences
 pub mod Searching
 pub mod Hunts
 pub mod Finder

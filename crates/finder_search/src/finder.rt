@@ -7,10 +7,10 @@ ghost use Rattle.finders.specs.Refused.{variables_refused, ask_refused};
 ghost use Rattle.clause_tables.specs.Room.{room};
 ghost use Rattle.clause_tables.specs.Table.{meaning_of, made_in};
 
-use crate::hunt::find;
-use crate::slots::Slot;
-use finders::{Answer, Finder};
+use crate::question::find;
+use crate::trail::Slot;
 use clause_tables::{ClauseRecord, Room, Tables};
+use finders::{Answer, Finder};
 use terms::{Refusal, SoftSet};
 
 /// Finds a model by splitting on one variable after another, for up to 256 variables.
@@ -41,13 +41,13 @@ impl<'a> Search<'a> {
     }
 
     /// The answer to a question that is not refused. At a core the buffer is not touched.
-    fn hunt(&self, set: SoftSet, buffer: &mut [u8]) -> Answer
+    fn solve(&self, set: SoftSet, buffer: &mut [u8]) -> Answer
         requires { ask_refused (finder_meaning self.now) set buffer.old ≡ None }
         ensures { Asked (finder_meaning self.now) set buffer.old (Ok result) buffer.new }
     {
         let n = self.tables.variables();
-        let mut slots = [Slot::Unset; 256];
-        find(&self.tables, set, &mut slots[..n], &mut buffer[..n])
+        let mut trail = [Slot::Unset; 256];
+        find(&self.tables, set, &mut trail[..n], &mut buffer[..n])
     }
 }
 
@@ -84,7 +84,7 @@ impl Finder for Search<'_> {
 
     fn ask(&self, set: SoftSet, buffer: &mut [u8]) -> Result<Answer, Refusal> {
         self.tables.check_question(set, buffer)?;
-        Ok(self.hunt(set, buffer))
+        Ok(self.solve(set, buffer))
     }
 
     fn broken(&self, assignment: &[u8]) -> Result<SoftSet, Refusal> {

@@ -1,16 +1,16 @@
 //! The search: a finder for up to 256 variables, on clause tables that the caller lends.
 #![tactic(auto)]
 
+mod clause_status;
 mod finder;
-mod hunt;
 mod occurrences;
 mod order;
 mod propagation;
+mod question;
 mod reasons;
 mod scores;
-mod slots;
 mod splitting;
-mod standings;
-mod variables;
+mod trail;
+mod variable_sets;
 
 pub use finder::Search;

@@ -3,11 +3,11 @@ ghost use Rattle.std.specs.Prelude.{◌≡◌, ℤ, ◌+◌, ◌<◌, ◌≤◌,
 ghost use Rattle.std.specs.Iterator.{YieldsFirst, item_count};
 ghost use Rattle.terms.specs.Clauses.{bad_literal};
 ghost use Rattle.clause_tables.specs.Entries.{IsProper, as_entry};
-ghost use Rattle.finder_search.specs.Slots.{row};
+ghost use Rattle.finder_search.specs.Trail.{row};
 
-use crate::slots::place_of;
-use std::marker::Model;
+use crate::trail::place_of;
 use clause_tables::{Clause, Tables};
+use std::marker::Model;
 use terms::SoftSet;
 
 /// The number of a clause in which a literal stands, and the head of the chain of the older ones.
@@ -30,7 +30,7 @@ pub(crate) struct Occurrences {
 }
 
 impl Occurrences {
-    ghost use Rattle.finder_search.specs.Occurring.{AddsClause, Indexed, PushesNumber, numbers_with};
+    ghost use Rattle.finder_search.specs.Occurrences.{AddsClause, Indexed, PushesNumber, numbers_with};
 
     /// The occurrences in the clauses that a model for the set has to satisfy.
     #[tactic(auto, using(crate::proofs::Occurring::coming_here, crate::proofs::Occurring::all_told))]
@@ -75,7 +75,7 @@ impl Occurrences {
     }
 
     /// Puts the number in front of the literal's chain.
-    #[tactic(auto, using(crate::proofs::Occurring::pushed), unfolding(crate::specs::Occurring::numbers_with))]
+    #[tactic(auto, using(crate::proofs::Occurring::pushed), unfolding(crate::specs::Occurrences::numbers_with))]
     fn push(&mut self, literal: i32, number: u16)
         requires proper { bad_literal 256 literal ≡ false }
         requires room { self.old.used < 32768 }
@@ -90,7 +90,7 @@ impl Occurrences {
     }
 
     /// The numbers of the clauses in which the literal stands.
-    #[tactic(auto, unfolding(crate::specs::Occurring::numbers_with))]
+    #[tactic(auto, unfolding(crate::specs::Occurrences::numbers_with))]
     pub(crate) fn with(&self, literal: i32) -> Numbers<'_>
         requires { bad_literal 256 literal ≡ false }
         ensures { result ≡ numbers_with self.now literal }
@@ -111,7 +111,7 @@ pub(crate) struct Numbers<'a> {
 
 impl<'a> Model for Numbers<'a> {
     ghost use Rattle.std.specs.Prelude.{List, ℕ, reverse};
-    ghost use Rattle.finder_search.specs.Occurring.{chain};
+    ghost use Rattle.finder_search.specs.Occurrences.{chain};
 
     ghost Value = { List ℕ };
 

@@ -1,4 +1,4 @@
-//! In which order the clauses are looked at for the next literal. It bears on the speed of a search, and on nothing else.
+//! In which order the clauses are visited at for the next literal. It bears on the speed of a search, and on nothing else.
 ghost use Rattle.std.specs.Prelude.{◌≤◌, length};
 
 use clause_tables::{Clause, Tables};
@@ -19,7 +19,7 @@ pub(crate) fn short_first(tables: &Tables<'_>, order: &mut [u16; 32768]) -> usiz
     count
 }
 
-/// Whether the clause is among those that are always looked at.
+/// Whether the clause is among those that are always visited at.
 pub(crate) fn is_short(clause: Clause<'_>) -> bool {
     clause.literals.len() <= 4
 }

@@ -1,63 +1,68 @@
-//! Drawing what follows from the values that are set.
+//! Propagated what follows from the values that are set.
 ghost use Rattle.std.specs.Prelude.{◌≡◌, ℕ, ◌<◌, true, false, ◌==◌};
 ghost use Rattle.terms.specs.Clauses.{bad_literal};
 ghost use Rattle.clause_tables.specs.Entries.{as_entry};
 ghost use Rattle.clause_tables.specs.Wanted.{wanted};
 ghost use Rattle.terms.specs.Masks.{member};
-ghost use Rattle.finder_search.specs.Occurring.{occurs};
-ghost use Rattle.finder_search.specs.Reasons.{clause_choices, clause_softs};
-ghost use Rattle.finder_search.specs.Sets.{has};
-ghost use Rattle.finder_search.specs.Slots.{negated, unset};
-ghost use Rattle.finder_search.specs.Standings.{standing};
-ghost use Rattle.finder_search.specs.declared.standings.Standing.TheVariants.{Broken, Last};
-ghost use Rattle.finder_search.specs.Hunts.{DrawingIn, ExcludesIn, KeepsIn, SoundIn};
-ghost use Rattle.finder_search.specs.Searching.{Belongs, Grown, choices, is_quiet};
+ghost use Rattle.finder_search.specs.Occurrences.{occurs};
+ghost use Rattle.finder_search.specs.Reasons.{clause_decisions, clause_softs};
+ghost use Rattle.finder_search.specs.VariableSets.{has};
+ghost use Rattle.finder_search.specs.Trail.{negated, unset};
+ghost use Rattle.finder_search.specs.ClauseStatus.{status};
+ghost use Rattle.finder_search.specs.declared.clause_status.ClauseStatus.TheVariants.{Broken, Unit as UnitClause};
+ghost use Rattle.finder_search.specs.Hunts.{PropagatedIn, ExcludesIn, KeepsIn, SoundIn};
+ghost use Rattle.finder_search.specs.Searching.{Belongs, Extends, decisions, is_quiet};
 
-use crate::hunt::Hunt;
+use crate::clause_status::{ClauseStatus, status_of};
+use crate::question::Question;
 use crate::reasons::Reason;
-use crate::slots::{Slot, draw, opposite};
-use crate::standings::{Standing, standing_of};
+use crate::trail::{Slot, imply, opposite};
 use clause_tables::Clause;
 
-impl Hunt<'_> {
-    /// Draws what follows from the clauses while nothing is chosen.
-    #[tactic(auto, using(crate::proofs::Growing::grown_same, crate::proofs::Growing::grown_more))]
-    pub(crate) fn begin(&self, slots: &mut [Slot]) -> Result<(), Reason>
-        requires { SoundIn self.now slots.old }
-        ensures grown { Grown 0 slots.old slots.new }
-        ensures sound { SoundIn self.now slots.new }
-        ensures drawing { DrawingIn self.now (λ k. true) slots.old result slots.new }
+impl Question<'_> {
+    /// Draws what follows from the clauses while nothing is decided.
+    #[tactic(auto, using(crate::proofs::Extending::extends_same, crate::proofs::Extending::extends_more))]
+    pub(crate) fn propagate_at_root(&self, trail: &mut [Slot]) -> Result<(), Reason>
+        requires { SoundIn self.now trail.old }
+        ensures extends { Extends 0 trail.old trail.new }
+        ensures sound { SoundIn self.now trail.new }
+        ensures propagated { PropagatedIn self.now (λ k. true) trail.old result trail.new }
     {
         for number in 0..self.tables.clause_count() {
-            self.look(number, slots, 0)?;
+            self.visit(number, trail, 0)?;
         }
         Ok(())
     }
 
     /// Draws what follows from the literal, which is true now: looks at each clause that loses its opposite.
-    #[cycle(drawing)]
-    #[tactic(auto, using(crate::proofs::Growing::grown_more, crate::proofs::Looking::looked_none, crate::proofs::Looking::looked_all))]
-    pub(crate) fn follow(&self, literal: i32, slots: &mut [Slot], depth: u16) -> Result<(), Reason>
+    #[cycle(propagating)]
+    #[tactic(auto, using(crate::proofs::Extending::extends_more, crate::proofs::Visiting::visited_none, crate::proofs::Visiting::visited_all))]
+    pub(crate) fn propagate(
+        &self,
+        literal: i32,
+        trail: &mut [Slot],
+        level: u16,
+    ) -> Result<(), Reason>
         requires proper { bad_literal self.now.tables.now.n literal ≡ false }
-        requires sound { SoundIn self.now slots.old }
-        ensures grown { Grown depth slots.old slots.new }
-        ensures sound { SoundIn self.now slots.new }
-        ensures drawing { DrawingIn self.now (occurs self.now.set (negated literal) self.now.tables.now.entries) slots.old result slots.new }
+        requires sound { SoundIn self.now trail.old }
+        ensures extends { Extends level trail.old trail.new }
+        ensures sound { SoundIn self.now trail.new }
+        ensures propagated { PropagatedIn self.now (occurs self.now.set (negated literal) self.now.tables.now.entries) trail.old result trail.new }
     {
         for number in self.occurrences.with(opposite(literal)) {
-            self.look(usize::from(number), slots, depth)?;
+            self.visit(usize::from(number), trail, level)?;
         }
         Ok(())
     }
 
-    /// Looks at the clause with this number: where one literal is left, it is made true, and what follows is drawn.
-    #[cycle(drawing)]
-    #[tactic(auto, using(crate::proofs::Growing::grown_more, crate::proofs::Belonging::listed_belongs, crate::proofs::Looking::looked_last))]
-    fn look(&self, number: usize, slots: &mut [Slot], depth: u16) -> Result<(), Reason>
-        requires { SoundIn self.now slots.old }
-        ensures grown { Grown depth slots.old slots.new }
-        ensures sound { SoundIn self.now slots.new }
-        ensures drawing { DrawingIn self.now (λ k. number == k) slots.old result slots.new }
+    /// Looks at the clause with this number: where one literal is left, it is made true, and what follows is implied.
+    #[cycle(propagating)]
+    #[tactic(auto, using(crate::proofs::Extending::extends_more, crate::proofs::Belonging::listed_belongs, crate::proofs::Visiting::visited_last))]
+    fn visit(&self, number: usize, trail: &mut [Slot], level: u16) -> Result<(), Reason>
+        requires { SoundIn self.now trail.old }
+        ensures extends { Extends level trail.old trail.new }
+        ensures sound { SoundIn self.now trail.new }
+        ensures propagated { PropagatedIn self.now (λ k. number == k) trail.old result trail.new }
     {
         let Some(clause) = self.tables.clause(number) else {
             return Ok(());
@@ -65,43 +70,43 @@ impl Hunt<'_> {
         if !clause.kind.is_wanted(self.set) {
             return Ok(());
         }
-        match standing_of(clause.literals, slots) {
-            Standing::Met | Standing::Open(_) => Ok(()),
-            Standing::Broken => Err(self.conflict(clause, slots)),
-            Standing::Last(literal) => {
-                self.draw_last(literal, clause, slots, depth);
-                self.follow(literal, slots, depth)
+        match status_of(clause.literals, trail) {
+            ClauseStatus::Satisfied | ClauseStatus::Open(_) => Ok(()),
+            ClauseStatus::Broken => Err(self.conflict(clause, trail)),
+            ClauseStatus::Unit(literal) => {
+                self.imply_last(literal, clause, trail, level);
+                self.propagate(literal, trail, level)
             }
         }
     }
 
     /// Why no model is left, where the clause is broken.
-    fn conflict(&self, clause: Clause<'_>, slots: &[Slot]) -> Reason
+    fn conflict(&self, clause: Clause<'_>, trail: &[Slot]) -> Reason
         requires belongs { Belongs self.now.tables.now (as_entry clause) }
         requires wanted { wanted self.now.set clause.kind ≡ true }
-        requires sound { SoundIn self.now slots.now }
-        requires broken { standing slots.now clause.literals.now ≡ Broken }
-        ensures excludes { ExcludesIn self.now (choices slots.now) result }
-        ensures choices { (v : ℕ) → has result.choices v ≡ clause_choices slots.now clause.entry.literals.now v }
-        ensures softs { (k : ℕ) → member result.softs k ≡ clause_softs slots.now clause.entry.kind clause.entry.literals.now k }
+        requires sound { SoundIn self.now trail.now }
+        requires broken { status trail.now clause.literals.now ≡ Broken }
+        ensures excludes { ExcludesIn self.now (decisions trail.now) result }
+        ensures decisions { (v : ℕ) → has result.decisions v ≡ clause_decisions trail.now clause.entry.literals.now v }
+        ensures softs { (k : ℕ) → member result.softs k ≡ clause_softs trail.now clause.entry.kind clause.entry.literals.now k }
     {
-        Reason::of(clause, slots)
+        Reason::of(clause, trail)
     }
 
     /// Makes the last literal of the clause true.
-    fn draw_last(&self, literal: i32, clause: Clause<'_>, slots: &mut [Slot], depth: u16)
+    fn imply_last(&self, literal: i32, clause: Clause<'_>, trail: &mut [Slot], level: u16)
         requires belongs { Belongs self.now.tables.now (as_entry clause) }
         requires wanted { wanted self.now.set clause.kind ≡ true }
-        requires sound { SoundIn self.now slots.old }
-        requires last { standing slots.old clause.literals.now ≡ Last literal }
-        ensures grown { Grown depth slots.old slots.new }
-        ensures sound { SoundIn self.now slots.new }
-        ensures fewer { unset slots.new < unset slots.old }
+        requires sound { SoundIn self.now trail.old }
+        requires last { status trail.old clause.literals.now ≡ UnitClause literal }
+        ensures extends { Extends level trail.old trail.new }
+        ensures sound { SoundIn self.now trail.new }
+        ensures fewer { unset trail.new < unset trail.old }
         ensures proper { bad_literal self.now.tables.now.n literal ≡ false }
-        ensures keeps { KeepsIn self.now literal slots.old slots.new }
-        ensures own { is_quiet self.now.set slots.new (as_entry clause.entry) ≡ true }
+        ensures keeps { KeepsIn self.now literal trail.old trail.new }
+        ensures own { is_quiet self.now.set trail.new (as_entry clause.entry) ≡ true }
     {
-        let reason = Reason::of(clause, slots);
-        draw(slots, literal, depth, reason);
+        let reason = Reason::of(clause, trail);
+        imply(trail, literal, level, reason);
     }
 }

@@ -1,10 +1,10 @@
 //! Which literal to try next.
 ghost use Rattle.std.specs.Prelude.{◌≡◌, ◌+◌, ◌<◌, ◌≤◌, true, false, All, length};
 ghost use Rattle.terms.specs.Clauses.{bad_literal, variable};
-ghost use Rattle.finder_search.specs.Standings.{is_open};
+ghost use Rattle.finder_search.specs.ClauseStatus.{is_unassigned};
 
 use crate::occurrences::row_of;
-use crate::slots::{Slot, place_of};
+use crate::trail::{Slot, place_of};
 
 /// How much each literal would do for the open clauses, by its row.
 #[derive(Clone, Copy, Debug)]
@@ -22,13 +22,13 @@ impl Scores {
     }
 
     /// Counts an open clause for each of its literals.
-    pub(crate) fn add(&mut self, clause: &[i32], slots: &[Slot])
-        requires few { length slots.now ≤ 256 }
-        requires proper { All (λ l. bad_literal (length slots.now) l ≡ false) clause.now }
+    pub(crate) fn add(&mut self, clause: &[i32], trail: &[Slot])
+        requires few { length trail.now ≤ 256 }
+        requires proper { All (λ l. bad_literal (length trail.now) l ≡ false) clause.now }
     {
         let left = clause
             .iter()
-            .filter(|literal| slots[place_of(**literal)].is_unset())
+            .filter(|literal| trail[place_of(**literal)].is_unset())
             .count();
         let weight = weight(left, clause.len());
         self.clauses = self.clauses.saturating_add(1);
@@ -38,22 +38,22 @@ impl Scores {
         }
     }
 
-    /// Whether so many clauses were counted that long ones more would hardly change the choice.
+    /// Whether so many clauses were counted that long ones more would hardly change the decision.
     pub(crate) fn are_enough(&self) -> bool {
         self.clauses >= 64
     }
 
     /// The literal to try, of a variable without a value. The fallback shows that there is one.
-    pub(crate) fn best(&self, slots: &[Slot], fallback: i32) -> i32
-        requires few { length slots.now ≤ 256 }
-        requires proper { bad_literal (length slots.now) fallback ≡ false }
-        requires unset { is_open slots.now fallback ≡ true }
-        ensures proper { bad_literal (length slots.now) result ≡ false }
-        ensures unset { is_open slots.now result ≡ true }
+    pub(crate) fn best(&self, trail: &[Slot], fallback: i32) -> i32
+        requires few { length trail.now ≤ 256 }
+        requires proper { bad_literal (length trail.now) fallback ≡ false }
+        requires unset { is_unassigned trail.now fallback ≡ true }
+        ensures proper { bad_literal (length trail.now) result ≡ false }
+        ensures unset { is_unassigned trail.now result ≡ true }
     {
         let mut best = fallback;
         let mut most = 0_u64;
-        for (place, slot) in slots.iter().enumerate() {
+        for (place, slot) in trail.iter().enumerate() {
             if slot.is_unset() {
                 let value = self.value(place);
                 if value > most {
@@ -80,7 +80,7 @@ impl Scores {
         (self.rows[2 * place], self.rows[2 * place + 1])
     }
 
-    /// The literal that does more; but the positive one where that is wanted and would draw far more.
+    /// The literal that does more; but the positive one where that is wanted and would imply far more.
     fn literal(&self, place: usize) -> i32
         requires { place < 256 }
         ensures { variable result ≡ place + 1 }

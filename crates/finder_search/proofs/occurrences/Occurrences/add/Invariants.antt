@@ -2,7 +2,7 @@ use Rattle.std.proofs.Common.{◌≡◌, ℕ, ◌+◌, ◌&&◌, ◌||◌, false
 use Rattle.std.specs.List.{list_any}
 use Rattle.std.specs.Ordering.{int_eq}
 use Rattle.terms.specs.Clauses.{bad_literal}
-use Rattle.finder_search.specs.Occurring.{has_number, numbers_with}
+use Rattle.finder_search.specs.Occurrences.{has_number, numbers_with}
 use Rattle.finder_search.proofs.occurrences.Occurrences.add.Given as goal
 
 -- so far the literals before this one are added

@@ -1,6 +1,6 @@
 use Rattle.std.proofs.Common.{ℕ, ◌≤◌, refl, arith}
 use Rattle.std.proofs.lemmas.List.Elements.{All-replicate}
-use Rattle.finder_search.specs.Occurring.{chain, numbers_with}
+use Rattle.finder_search.specs.Occurrences.{chain, numbers_with}
 use Rattle.finder_search.proofs.occurrences.Occurrences.none.Goals as goal
 
 pub invariant_of-result : goal.invariant_of-result

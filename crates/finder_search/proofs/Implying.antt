@@ -1,0 +1,190 @@
+-- What is implied from a clause by its status: a reason why it is broken, or a value for its last literal.
+use Rattle.std.proofs.Common.{◌≡◌, ℕ, ◌<◌, Bool, true, false, not, cond, eqb, ltb, List, [], ◌∷◌, length, get_or, set, All, ℤ, Option, sym, refl, ap, ◌∙◌, subst, ⊎_elim, arith}
+use Rattle.std.specs.List.{list_any, filter}
+use Rattle.std.proofs.lemmas.Bool.{both_ways, and_parts, and_from, or_cases, or_from, or_left, or_right, eq-eqb, eqb-true, lt-ltb}
+use Rattle.std.proofs.lemmas.List.Elements.{All-head, All-rest, All-filter, filter_passes}
+use Rattle.terms.specs.Clauses.{satisfied_by, bad_literal}
+use Rattle.terms.specs.Masks.{member, Subset, below}
+use Rattle.terms.proofs.MaskLaws.{below_members}
+use Rattle.clause_tables.specs.Entries.{Entry, IsProper}
+use Rattle.clause_tables.specs.Table.{Table}
+use Rattle.clause_tables.specs.Wanted.{wanted}
+use Rattle.clause_tables.specs.declared.records.ClauseKind.{ClauseKind}
+use Rattle.clause_tables.specs.declared.records.ClauseKind.TheVariants.{Hard, Soft}
+use Rattle.finder_search.specs.VariableSets.{has}
+use Rattle.finder_search.specs.Trail.{place, positive, same, slot_at, unset, rests_on_soft}
+use Rattle.finder_search.specs.ClauseStatus.{is_true, is_unassigned, status, left_with}
+use Rattle.finder_search.specs.Reasons.{is_number, clause_decisions, clause_softs}
+use Rattle.finder_search.specs.Searching.{Satisfies, bit, decisions, Excludes, Backed, Sound, Belongs, Unassigned, is_met, is_quiet, Extends, Keeps}
+use Rattle.finder_search.specs.declared.reasons.Reason.{Reason}
+use Rattle.finder_search.specs.declared.trail.Slot.{Slot}
+use Rattle.finder_search.specs.declared.trail.Slot.TheVariants.{Unset, Decided, Implied}
+use Rattle.finder_search.specs.declared.clause_status.ClauseStatus.{ClauseStatus}
+use Rattle.finder_search.specs.declared.clause_status.ClauseStatus.TheVariants.{Satisfied, Broken, Unit as UnitClause, Open}
+use Rattle.finder_search.proofs.Extending.{extends_implied, unset_set}
+use Rattle.finder_search.proofs.Soundness.{sound_implied}
+use Rattle.finder_search.proofs.Literals.{place_within, true_is}
+use Rattle.finder_search.proofs.Quietness.{quiet_kept, quiet_made, stands_of_open}
+use Rattle.finder_search.proofs.Reasoning.{Rested, broken_clause, unit_clause, wanted_met}
+
+-- ---- what a status says of the literals
+-- how many literals without a value the status tells, and the first of them
+told : ClauseStatus → ℕ
+told Satisfied = 3
+told Broken = 0
+told (UnitClause l) = 1
+told (Open l) = 2
+
+first_of : ℤ → ClauseStatus → ℤ
+first_of d Satisfied = d
+first_of d Broken = d
+first_of d (UnitClause l) = l
+first_of d (Open l) = l
+
+broken_status : (b : Bool) (ls : List ℤ) → cond b Satisfied (left_with ls) ≡ Broken → (b ≡ false) × (ls ≡ [])
+unfolding told
+broken_status true ls e = absurd (let z = ap told e in omega arith)
+broken_status false [] e = (refl, refl)
+broken_status false (l ∷ []) e = absurd (let z = ap told e in omega arith)
+broken_status false (l ∷ k ∷ ls) e = absurd (let z = ap told e in omega arith)
+
+last_status : (b : Bool) (ls : List ℤ) (u : ℤ) → cond b Satisfied (left_with ls) ≡ UnitClause u → (b ≡ false) × (ls ≡ u ∷ [])
+unfolding told first_of
+last_status true ls u e = absurd (let z = ap told e in omega arith)
+last_status false [] u e = absurd (let z = ap told e in omega arith)
+last_status false (l ∷ []) u e = (refl, ap (λ s. first_of u s ∷ []) e)
+last_status false (l ∷ k ∷ ls) u e = absurd (let z = ap told e in omega arith)
+
+open_status : (b : Bool) (ls : List ℤ) (u : ℤ) → cond b Satisfied (left_with ls) ≡ Open u → (get_or ls 0 u ≡ u) × (0 < length ls) × (b ≡ false)
+unfolding told first_of
+open_status true ls u e = absurd (let z = ap told e in omega arith)
+open_status false [] u e = absurd (let z = ap told e in omega arith)
+open_status false (l ∷ []) u e = absurd (let z = ap told e in omega arith)
+open_status false (l ∷ k ∷ ls) u e = (ap (first_of u) e, omega arith, refl)
+
+-- ---- a literal among those without a value
+unassigned_among : (n : ℕ) (ss : List Slot) (c : List ℤ) (u : ℤ) → length ss ≡ n → All (λ l. bad_literal n l ≡ false) c → 0 < length (filter (is_unassigned ss) c)
+    → get_or (filter (is_unassigned ss) c) 0 u ≡ u → Unassigned ss u
+unassigned_among n ss c u wide good some e = (
+  subst (λ x. bad_literal (length ss) x ≡ false) e
+      (subst (λ m. bad_literal m (get_or (filter (is_unassigned ss) c) 0 u) ≡ false) (sym wide) (All-filter (is_unassigned ss) (λ l. bad_literal n l ≡ false) c good 0 u some)),
+  subst (λ x. is_unassigned ss x ≡ true) e (filter_passes (is_unassigned ss) c 0 u some),
+)
+
+-- the last literal of a clause has no value
+pub last_unassigned : (t : Table) (wish : ℕ) (ss : List Slot) (e : Entry) (u : ℤ) → Belongs t e → Sound t wish ss → status ss e.clause ≡ UnitClause u → Unassigned ss u
+last_unassigned t wish ss e u belongs sound h =
+    let p = last_status (list_any (is_true ss) e.clause) (filter (is_unassigned ss) e.clause) u h in
+    let one : 0 < length (filter (is_unassigned ss) e.clause) = let z = ap length p.1 in omega arith in
+    unassigned_among t.n ss e.clause u sound.wide belongs.0 one (ap (λ ls. get_or ls 0 u) p.1)
+
+-- so has the first of several
+pub open_unassigned : (n : ℕ) (ss : List Slot) (e : Entry) (u : ℤ) → length ss ≡ n → IsProper n e → status ss e.clause ≡ Open u → Unassigned ss u
+open_unassigned n ss e u wide proper h =
+    let p = open_status (list_any (is_true ss) e.clause) (filter (is_unassigned ss) e.clause) u h in
+    unassigned_among n ss e.clause u wide proper p.1 p.0
+
+-- and the clause has no true literal
+pub open_unmet : (wish : ℕ) (ss : List Slot) (e : Entry) (u : ℤ) → wanted wish e.kind ≡ true → status ss e.clause ≡ Open u → is_met wish ss e ≡ false
+open_unmet wish ss e u w h =
+    or_from (not (wanted wish e.kind)) (list_any (is_true ss) e.clause) (ap not w) (open_status (list_any (is_true ss) e.clause) (filter (is_unassigned ss) e.clause) u h).2
+
+-- ---- the reason that a clause gives
+-- what the clause rests on, as a reason has it
+abbrev pub ReasonOf : List Slot → ClauseKind → List ℤ → Reason → Type 0
+ReasonOf ss kind c r = ((v : ℕ) → has r.decisions v ≡ clause_decisions ss c v) × ((k : ℕ) → member r.softs k ≡ clause_softs ss kind c k)
+
+rested : (ss : List Slot) (kind : ClauseKind) (c : List ℤ) (r : Reason) → ReasonOf ss kind c r → Rested ss r c
+rested ss kind c r of = (λ u h. of.0 u ∙ h, λ k h. of.1 k ∙ or_right (is_number kind k) (list_any (λ l. rests_on_soft (slot_at ss (place l)) k) c) h)
+
+-- the clause itself is wanted by the reason
+wanted_by : (wish : ℕ) (ss : List Slot) (kind : ClauseKind) (c : List ℤ) (r : Reason) → below 64 wish ≡ true → wanted wish kind ≡ true → ReasonOf ss kind c r → wanted r.softs kind ≡ true
+wanted_by wish ss Hard c r few w of = refl
+wanted_by wish ss (Soft j) c r few w of =
+    of.1 j ∙ or_left (is_number (Soft j) j) _ (and_from (eqb j j) (ltb j 64) (eq-eqb j j refl) (lt-ltb j 64 ((below_members 64 wish).0 few j w)))
+
+-- a soft clause that the value of a literal rests on is of the set
+soft_among : (t : Table) (wish : ℕ) (cs : List (Option Bool)) (v k : ℕ) (s : Slot) → Backed t wish cs v s → rests_on_soft s k ≡ true → member wish k ≡ true
+soft_among t wish cs v k Unset h e = absurd (both_ways false refl e)
+soft_among t wish cs v k (Decided b d) h e = absurd (both_ways false refl e)
+soft_among t wish cs v k (Implied b d r) h e = h.0 k e
+
+softs_among : (t : Table) (wish k : ℕ) (ss : List Slot) (c : List ℤ) → Sound t wish ss → All (λ l. bad_literal t.n l ≡ false) c
+    → list_any (λ l. rests_on_soft (slot_at ss (place l)) k) c ≡ true → member wish k ≡ true
+softs_among t wish k ss [] sound good h = absurd (both_ways false refl h)
+softs_among t wish k ss (l ∷ c) sound good h =
+    ⊎_elim
+    (λ e. let within = place_within t.n l (All-head (λ x. bad_literal t.n x ≡ false) l c good) in
+    soft_among t wish (decisions ss) (place l) k (slot_at ss (place l)) (sound.backed (place l) (omega (arith, within, sound.wide))) e)
+    (λ e. softs_among t wish k ss c sound (All-rest (λ x. bad_literal t.n x ≡ false) l c _ refl good) e)
+    (or_cases (rests_on_soft (slot_at ss (place l)) k) (list_any (λ x. rests_on_soft (slot_at ss (place x)) k) c) h)
+
+number_among : (wish k : ℕ) (kind : ClauseKind) → wanted wish kind ≡ true → is_number kind k ≡ true → member wish k ≡ true
+number_among wish k Hard w h = absurd (both_ways false refl h)
+number_among wish k (Soft j) w h = subst (λ i. member wish i ≡ true) (eqb-true j k (and_parts (eqb j k) (ltb k 64) h).0) w
+
+module _ (t : Table) (wish : ℕ) (ss : List Slot) (e : Entry) (r : Reason) (sound : Sound t wish ss) (belongs : Belongs t e)
+    (w : wanted wish e.kind ≡ true) (few : below 64 wish ≡ true) (of : ReasonOf ss e.kind e.clause r) where
+  among : Subset r.softs wish
+  among k h =
+      ⊎_elim (number_among wish k e.kind w) (softs_among t wish k ss e.clause sound belongs.0)
+      (or_cases (is_number e.kind k) (list_any (λ l. rests_on_soft (slot_at ss (place l)) k) e.clause) (sym (of.1 k) ∙ h))
+
+  satisfied : (a : List ℕ) → Satisfies t r.softs a → satisfied_by a e.clause ≡ true
+  satisfied a s = wanted_met (wanted r.softs e.kind) (satisfied_by a e.clause) (wanted_by wish ss e.kind e.clause r few w of) (belongs.1 r.softs a s.1)
+
+  -- a broken clause shows that no assignment is left
+  pub excludes_broken : status ss e.clause ≡ Broken → Excludes t wish (decisions ss) r
+  excludes_broken h =
+      let p = broken_status (list_any (is_true ss) e.clause) (filter (is_unassigned ss) e.clause) h in
+      record {
+        among = among;
+        none = λ a s f. both_ways (satisfied_by a e.clause)
+            (broken_clause t wish ss r a sound s f e.clause belongs.0 (rested ss e.kind e.clause r of) p.0 p.1)
+            (satisfied a s);
+      }
+
+  -- the last literal of a clause is true in each assignment that is left
+  pub backed_last : (u : ℤ) (level : ℕ) → status ss e.clause ≡ UnitClause u → Backed t wish (decisions ss) (place u) (Implied (positive u) level r)
+  backed_last u level h =
+      let p = last_status (list_any (is_true ss) e.clause) (filter (is_unassigned ss) e.clause) u h in
+      let unassigned = last_unassigned t wish ss e u belongs sound h in (
+        among,
+        λ a s f.
+            let made = unit_clause t wish ss r a sound s f e.clause u belongs.0 (rested ss e.kind e.clause r of) p.0 p.1 (satisfied a s) in
+            same_sign (bit a (place u)) (positive u)
+            (sym (true_is t.n a u s.0 (subst (λ n. bad_literal n u ≡ false) sound.wide unassigned.0)) ∙ made),
+      )
+    where
+      same_sign : (x y : Bool) → same x y ≡ true → x ≡ y
+      same_sign true true h = refl
+      same_sign true false h = sym h
+      same_sign false true h = h
+      same_sign false false h = refl
+
+-- ---- what is left once the last literal is made true
+pub record LastImplied (t : Table) (wish level : ℕ) (ss ts : List Slot) (e : Entry) (u : ℤ) : Type 0 where
+  pub extends : Extends level ss ts
+  pub sound : Sound t wish ts
+  pub fewer : unset ts < unset ss
+  pub proper : bad_literal t.n u ≡ false
+  pub keeps : Keeps t wish u ss ts
+  -- the clause itself has a true literal now
+  pub own : is_quiet wish ts e ≡ true
+
+pub last_implied : (t : Table) (wish level : ℕ) (ss ts : List Slot) (e : Entry) (r : Reason) (u : ℤ) → Sound t wish ss → Belongs t e → status ss e.clause ≡ UnitClause u
+    → ts ≡ set ss (place u) (Implied (positive u) level r) → wanted wish e.kind ≡ true → below 64 wish ≡ true → ReasonOf ss e.kind e.clause r → LastImplied t wish level ss ts e u
+last_implied t wish level ss ts e r u sound belongs last implied w few of =
+    let value = Implied (positive u) level r in
+    let unassigned = last_unassigned t wish ss e u belongs sound last in
+    let within = place_within (length ss) u unassigned.0 in
+    let alone = (last_status (list_any (is_true ss) e.clause) (filter (is_unassigned ss) e.clause) u last).1 in
+    record {
+      extends = subst (Extends level ss) (sym implied) (extends_implied level ss (place u) (positive u) r within unassigned.1);
+      sound = subst (Sound t wish) (sym implied)
+          (sound_implied t wish ss (place u) (positive u) level r within unassigned.1 sound (backed_last t wish ss e r sound belongs w few of u level last));
+      fewer = omega (arith, ap unset implied, unset_set ss (place u) value within unassigned.1 refl);
+      proper = subst (λ n. bad_literal n u ≡ false) sound.wide unassigned.0;
+      keeps = quiet_kept t.n ss ts u value unassigned sound.wide refl implied wish;
+      own = quiet_made t.n ss ts u value unassigned sound.wide refl implied wish e (stands_of_open ss e.clause u alone);
+    }

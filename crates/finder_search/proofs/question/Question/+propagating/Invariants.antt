@@ -1,0 +1,20 @@
+use Rattle.std.proofs.Common.{◌*◌, ◌+◌}
+use Rattle.finder_search.specs.Occurrences.{has_number, occurs}
+use Rattle.finder_search.specs.Trail.{negated, unset}
+use Rattle.finder_search.specs.Searching.{Extends, Sound}
+use Rattle.finder_search.proofs.Visiting.{Visited}
+use Rattle.finder_search.proofs.question.Question.+propagating.Given as goal
+
+-- the variables without a value become fewer
+abbrev pub decreases-propagate : goal.decreases-propagate
+decreases-propagate l = 2 * unset l.trail.now + 1
+
+abbrev pub decreases-visit : goal.decreases-visit
+decreases-visit l = 2 * unset l.trail.now
+
+-- values were implied, and the clauses visited at are quiet
+abbrev pub invariant-propagate-loop-number : goal.invariant-propagate-loop-number
+invariant-propagate-loop-number l =
+    Extends l.level l.fn.trail l.trail
+    × Sound l.self.tables.now l.self.set l.trail
+    × Visited l.self.tables.now l.self.set (occurs l.self.set (negated l.fn.literal) l.self.tables.now.entries) (has_number l.number-iterator) l.fn.trail l.trail
