@@ -5,7 +5,7 @@ use Rattle.std.proofs.lemmas.Option.{slice_get_within, get_or_from_slice_get}
 use Rattle.clause_tables.specs.Entries.{Entry, IsProper}
 use Rattle.clause_tables.specs.Table.{Table}
 use Rattle.clause_tables.specs.Wanted.{met}
-use Rattle.finder_search.specs.Searching.{Belongs}
+use Rattle.finder_search.specs.Propagation.{Belongs}
 
 pub listed_belongs : (t : Table) (e : Entry) (k : ℕ) → All (IsProper t.n) t.entries → slice_get t.entries k ≡ Some e → Belongs t e
 listed_belongs t e k proper h =

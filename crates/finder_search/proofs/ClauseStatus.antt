@@ -2,8 +2,8 @@
 use Rattle.std.proofs.Common.{◌≡◌, not, List, [], ◌∷◌, ◌++◌, ℤ, is_some, refl}
 use Rattle.std.proofs.lemmas.List.Elements.{filter_more}
 use Rattle.std.proofs.lemmas.List.Folds.{list_any_more, list_any_at}
-use Rattle.finder_search.specs.Trail.{is_unset, value_of}
 use Rattle.finder_search.specs.ClauseStatus.{truth, left_with}
+use Rattle.finder_search.specs.Trail.{is_unset, value_of}
 use Rattle.finder_search.specs.declared.trail.Slot.{Slot}
 use Rattle.finder_search.specs.declared.trail.Slot.TheVariants.{Unset, Decided, Implied}
 use Rattle.finder_search.specs.declared.clause_status.ClauseStatus.{ClauseStatus}

@@ -1,19 +1,20 @@
 -- What holds once a literal is made true by decision, and once this is undone.
-use Rattle.std.proofs.Common.{false, ◌≡◌, ℕ, ◌+◌, ◌<◌, ◌^◌, List, All, length, map, set, Some, ℤ, refl, sym, ap, ◌∙◌, subst, arith}
+use Rattle.std.proofs.Common.{false, ◌≡◌, ℕ, ◌+◌, ◌<◌, ◌^◌, List, All, length, map, set, Some, ℤ, not, refl, sym, ap, ap₂, ◌∙◌, subst, arith}
 use Rattle.std.proofs.lemmas.List.{length-map}
 use Rattle.terms.specs.Clauses.{bad_literal}
 use Rattle.clause_tables.specs.Entries.{IsProper}
-use Rattle.clause_tables.specs.Table.{Table}
-use Rattle.finder_search.specs.Occurrences.{occurs}
-use Rattle.finder_search.specs.Trail.{place, positive, negated, unset, undone}
-use Rattle.finder_search.specs.Searching.{decision_of, decisions, Sound, Within, Extends, Quiet, Unassigned, none_pending}
+use Rattle.finder_search.specs.Literals.{place, positive, negated}
+use Rattle.finder_search.specs.Propagation.{Sound, Quiet, no_clause, losing}
+use Rattle.finder_search.specs.Splitting.{with_decision}
+use Rattle.finder_search.specs.Trail.{unset, undone, decision_of, decisions, Within, Extends, Unassigned}
 use Rattle.finder_search.specs.declared.trail.Slot.{Slot}
 use Rattle.finder_search.specs.declared.trail.Slot.TheVariants.{Decided}
 use Rattle.finder_search.proofs.Extending.{unset_set, within_set, within_deeper, decisions_decided, restored}
-use Rattle.finder_search.proofs.Literals.{place_within}
+use Rattle.finder_search.proofs.LiteralLaws.{place_within, place_negated, positive_negated}
 use Rattle.finder_search.proofs.Soundness.{sound_decided}
 use Rattle.finder_search.proofs.Quietness.{quiet_kept}
 use Rattle.finder_search.proofs.Visiting.{kept_quiet}
+use Rattle.finder_search.specs.Query.{Query}
 
 pub unassigned_fewer : (ss : List Slot) (u : ℤ) (level : ℕ) → Unassigned ss u → unset (set ss (place u) (Decided (positive u) level)) + 1 ≡ unset ss
 unassigned_fewer ss u level unassigned = unset_set ss (place u) (Decided (positive u) level) (place_within (length ss) u unassigned.0) unassigned.1 refl
@@ -26,11 +27,15 @@ unassigned_room ss u level unassigned room = omega (arith, unassigned_fewer ss u
 pub unassigned_place : (ss : List Slot) (u : ℤ) → bad_literal (length ss) u ≡ false → place u < length (decisions ss)
 unassigned_place ss u proper = omega (arith, place_within (length ss) u proper, length-map ss decision_of)
 
-module _ (t : Table) (wish level : ℕ) (ss us : List Slot) (u : ℤ) (unassigned : Unassigned ss u) (decided : us ≡ set ss (place u) (Decided (positive u) (level + 1))) where
-  pub decided_sound : Sound t wish ss → Sound t wish us
-  decided_sound sound = subst (Sound t wish) (sym decided) (sound_decided t wish ss (place u) (positive u) (level + 1) (place_within (length ss) u unassigned.0) unassigned.1 sound)
+-- the decisions with the opposite one more
+pub opposite_decision : (ss : List Slot) (u : ℤ) → bad_literal (length ss) u ≡ false → with_decision ss (negated u) ≡ set (decisions ss) (place u) (Some (not (positive u)))
+opposite_decision ss u proper = ap₂ (λ p b. set (decisions ss) p (Some b)) (place_negated u) (positive_negated (length ss) u proper)
 
-  pub decided_decisions : decisions us ≡ set (decisions ss) (place u) (Some (positive u))
+module _ (q : Query) (level : ℕ) (ss us : List Slot) (u : ℤ) (unassigned : Unassigned ss u) (decided : us ≡ set ss (place u) (Decided (positive u) (level + 1))) where
+  pub decided_sound : Sound q ss → Sound q us
+  decided_sound sound = subst (Sound q) (sym decided) (sound_decided q ss (place u) (positive u) (level + 1) (place_within (length ss) u unassigned.0) unassigned.1 sound)
+
+  pub decided_decisions : decisions us ≡ with_decision ss u
   decided_decisions = ap decisions decided ∙ decisions_decided ss (place u) (positive u) (level + 1)
 
   pub decided_fewer : unset us + 1 ≡ unset ss
@@ -42,9 +47,9 @@ module _ (t : Table) (wish level : ℕ) (ss us : List Slot) (u : ℤ) (unassigne
       (within_set (level + 1) ss (place u) (Decided (positive u) (level + 1)) (within_deeper level (level + 1) ss (omega arith) within) (omega arith))
 
   -- clauses are quiet but those that lose the opposite
-  pub decided_quiet : All (IsProper t.n) t.entries → length ss ≡ t.n → Quiet t wish none_pending ss → Quiet t wish (occurs wish (negated u) t.entries) us
+  pub decided_quiet : All (IsProper q.table.n) q.table.entries → length ss ≡ q.table.n → Quiet q no_clause ss → Quiet q (losing q u) us
   decided_quiet proper wide quiet k x at without =
-      kept_quiet t wish k u x ss us proper at (quiet_kept t.n ss us u (Decided (positive u) (level + 1)) unassigned wide refl decided wish) (quiet k x at refl) without
+      kept_quiet q k u x ss us proper at (quiet_kept q.table.n ss us u (Decided (positive u) (level + 1)) unassigned wide refl decided q.set) (quiet k x at refl) without
 
   pub all_restored : (ts xs : List Slot) → Within level ss → Extends (level + 1) us ts → xs ≡ map (undone level) ts → xs ≡ ss
   all_restored ts xs within extends h =

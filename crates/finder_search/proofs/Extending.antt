@@ -3,8 +3,7 @@ use Rattle.std.proofs.Common.{◌≡◌, ℕ, zero, suc, ◌+◌, ◌<◌, ◌�
 use Rattle.std.proofs.Math.Seq.{map-set_same}
 use Rattle.std.proofs.lemmas.Bool.{both_ways, cond-true, cond-false, lt-ltb, le-ltb}
 use Rattle.std.proofs.lemmas.List.{map-set, get_or-set_other}
-use Rattle.finder_search.specs.Trail.{slot_at, is_unset, unset, undone}
-use Rattle.finder_search.specs.Searching.{decision_of, decisions, level_of, Within, Extends}
+use Rattle.finder_search.specs.Trail.{slot_at, is_unset, unset, undone, decision_of, decisions, level_of, Within, Extends}
 use Rattle.finder_search.specs.declared.reasons.Reason.{Reason}
 use Rattle.finder_search.specs.declared.trail.Slot.{Slot}
 use Rattle.finder_search.specs.declared.trail.Slot.TheVariants.{Unset, Decided, Implied}
@@ -47,15 +46,15 @@ undone_same d (s ∷ ss) w = ap₂ (λ x xs. x ∷ xs) (undone_low d s (w 0 (ome
 
 -- ---- propagated
 pub extends_same : (level : ℕ) (ss : List Slot) → Extends level ss ss
-extends_same level ss = record { decided = refl; undone = λ d l. refl; kept = λ v h. refl; fewer = omega arith; shallow = λ w. w }
+extends_same level ss = record { decided = refl; below = λ d l. refl; kept = λ v h. refl; fewer = omega arith; within = λ w. w }
 
 pub extends_more : {level : ℕ} {ss ts us : List Slot} → Extends level ss ts → Extends level ts us → Extends level ss us
 extends_more g h = record {
   decided = h.decided ∙ g.decided;
-  undone = λ d l. h.undone d l ∙ g.undone d l;
+  below = λ d l. h.below d l ∙ g.below d l;
   kept = λ v held. h.kept v (ap is_unset (g.kept v held) ∙ held) ∙ g.kept v held;
   fewer = omega (arith, g.fewer, h.fewer);
-  shallow = λ w. h.shallow (g.shallow w);
+  within = λ w. h.within (g.within w);
 }
 
 pub decisions_implied : (ss : List Slot) (k : ℕ) (b : Bool) (d : ℕ) (r : Reason) → is_unset (slot_at ss k) ≡ true → decisions (set ss k (Implied b d r)) ≡ decisions ss
@@ -66,10 +65,10 @@ extends_implied level ss k b r l free =
     let e = unset_is (slot_at ss k) free in
     record {
       decided = decisions_implied ss k b level r free;
-      undone = λ d h. map-set_same (undone d) ss k (Implied b level r) Unset (cond-true _ Unset (Implied b level r) (lt-ltb d level h) ∙ sym (ap (undone d) e));
+      below = λ d h. map-set_same (undone d) ss k (Implied b level r) Unset (cond-true _ Unset (Implied b level r) (lt-ltb d level h) ∙ sym (ap (undone d) e));
       kept = λ v held. get_or-set_other ss k v (Implied b level r) Unset (λ here. both_ways (is_unset (slot_at ss v)) held (ap (λ j. is_unset (slot_at ss j)) here ∙ free));
       fewer = omega (arith, unset_set ss k (Implied b level r) l free refl);
-      shallow = λ w. within_set level ss k (Implied b level r) w (omega arith);
+      within = λ w. within_set level ss k (Implied b level r) w (omega arith);
     }
 
 -- ---- choosing
@@ -80,7 +79,7 @@ decisions_decided ss k b d = map-set decision_of ss k (Decided b d)
 pub restored : (level : ℕ) (ss ts : List Slot) (k : ℕ) (b : Bool) → Within level ss → is_unset (slot_at ss k) ≡ true
     → Extends (level + 1) (set ss k (Decided b (level + 1))) ts → map (undone level) ts ≡ ss
 restored level ss ts k b w free g =
-    g.undone level (omega arith)
+    g.below level (omega arith)
     ∙ map-set_same (undone level) ss k (Decided b (level + 1)) Unset
     (cond-true _ Unset (Decided b (level + 1)) (lt-ltb level (level + 1) (omega arith)) ∙ sym (ap (undone level) (unset_is (slot_at ss k) free)))
     ∙ undone_same level ss w

@@ -7,15 +7,15 @@ use Rattle.terms.specs.Clauses.{satisfied_by, bad_literal}
 use Rattle.terms.specs.Masks.{member, Subset, below}
 use Rattle.terms.proofs.MaskLaws.{below_members}
 use Rattle.clause_tables.specs.Entries.{Entry, IsProper}
-use Rattle.clause_tables.specs.Table.{Table}
 use Rattle.clause_tables.specs.Wanted.{wanted}
 use Rattle.clause_tables.specs.declared.records.ClauseKind.{ClauseKind}
 use Rattle.clause_tables.specs.declared.records.ClauseKind.TheVariants.{Hard, Soft}
-use Rattle.finder_search.specs.VariableSets.{has}
-use Rattle.finder_search.specs.Trail.{place, positive, same, slot_at, unset, rests_on_soft}
-use Rattle.finder_search.specs.ClauseStatus.{is_true, is_unassigned, status, left_with}
-use Rattle.finder_search.specs.Reasons.{is_number, clause_decisions, clause_softs}
-use Rattle.finder_search.specs.Searching.{Satisfies, bit, decisions, Excludes, Backed, Sound, Belongs, Unassigned, is_met, is_quiet, Extends, Keeps}
+use Rattle.finder_search.specs.ClauseStatus.{is_true, status, left_with}
+use Rattle.finder_search.specs.Literals.{place, positive, same}
+use Rattle.finder_search.specs.Propagation.{Sound, Belongs, is_met, IsAsked, ImpliesLast}
+use Rattle.finder_search.specs.Query.{Satisfies, Query}
+use Rattle.finder_search.specs.Reasons.{is_number, bit, Excludes, Backed, IsReason}
+use Rattle.finder_search.specs.Trail.{slot_at, unset, rests_on_soft, is_unassigned, decisions, Unassigned, Extends}
 use Rattle.finder_search.specs.declared.reasons.Reason.{Reason}
 use Rattle.finder_search.specs.declared.trail.Slot.{Slot}
 use Rattle.finder_search.specs.declared.trail.Slot.TheVariants.{Unset, Decided, Implied}
@@ -23,9 +23,10 @@ use Rattle.finder_search.specs.declared.clause_status.ClauseStatus.{ClauseStatus
 use Rattle.finder_search.specs.declared.clause_status.ClauseStatus.TheVariants.{Satisfied, Broken, Unit as UnitClause, Open}
 use Rattle.finder_search.proofs.Extending.{extends_implied, unset_set}
 use Rattle.finder_search.proofs.Soundness.{sound_implied}
-use Rattle.finder_search.proofs.Literals.{place_within, true_is}
+use Rattle.finder_search.proofs.LiteralLaws.{place_within, true_is}
 use Rattle.finder_search.proofs.Quietness.{quiet_kept, quiet_made, stands_of_open}
 use Rattle.finder_search.proofs.Reasoning.{Rested, broken_clause, unit_clause, wanted_met}
+use Rattle.terms.specs.declared.limits.TheConstants.{SOFT_PLACES}
 
 -- ---- what a status says of the literals
 -- how many literals without a value the status tells, and the first of them
@@ -72,11 +73,11 @@ unassigned_among n ss c u wide good some e = (
 )
 
 -- the last literal of a clause has no value
-pub last_unassigned : (t : Table) (wish : ℕ) (ss : List Slot) (e : Entry) (u : ℤ) → Belongs t e → Sound t wish ss → status ss e.clause ≡ UnitClause u → Unassigned ss u
-last_unassigned t wish ss e u belongs sound h =
+pub last_unassigned : (q : Query) (ss : List Slot) (e : Entry) (u : ℤ) → Belongs q.table e → Sound q ss → status ss e.clause ≡ UnitClause u → Unassigned ss u
+last_unassigned q ss e u belongs sound h =
     let p = last_status (list_any (is_true ss) e.clause) (filter (is_unassigned ss) e.clause) u h in
     let one : 0 < length (filter (is_unassigned ss) e.clause) = let z = ap length p.1 in omega arith in
-    unassigned_among t.n ss e.clause u sound.wide belongs.0 one (ap (λ ls. get_or ls 0 u) p.1)
+    unassigned_among q.table.n ss e.clause u sound.wide belongs.0 one (ap (λ ls. get_or ls 0 u) p.1)
 
 -- so has the first of several
 pub open_unassigned : (n : ℕ) (ss : List Slot) (e : Entry) (u : ℤ) → length ss ≡ n → IsProper n e → status ss e.clause ≡ Open u → Unassigned ss u
@@ -90,70 +91,65 @@ open_unmet wish ss e u w h =
     or_from (not (wanted wish e.kind)) (list_any (is_true ss) e.clause) (ap not w) (open_status (list_any (is_true ss) e.clause) (filter (is_unassigned ss) e.clause) u h).2
 
 -- ---- the reason that a clause gives
--- what the clause rests on, as a reason has it
-abbrev pub ReasonOf : List Slot → ClauseKind → List ℤ → Reason → Type 0
-ReasonOf ss kind c r = ((v : ℕ) → has r.decisions v ≡ clause_decisions ss c v) × ((k : ℕ) → member r.softs k ≡ clause_softs ss kind c k)
-
-rested : (ss : List Slot) (kind : ClauseKind) (c : List ℤ) (r : Reason) → ReasonOf ss kind c r → Rested ss r c
-rested ss kind c r of = (λ u h. of.0 u ∙ h, λ k h. of.1 k ∙ or_right (is_number kind k) (list_any (λ l. rests_on_soft (slot_at ss (place l)) k) c) h)
+rested : (ss : List Slot) (e : Entry) (r : Reason) → IsReason ss e r → Rested ss r e.clause
+rested ss e r of = (λ u h. of.0 u ∙ h, λ k h. of.1 k ∙ or_right (is_number e.kind k) (list_any (λ l. rests_on_soft (slot_at ss (place l)) k) e.clause) h)
 
 -- the clause itself is wanted by the reason
-wanted_by : (wish : ℕ) (ss : List Slot) (kind : ClauseKind) (c : List ℤ) (r : Reason) → below 64 wish ≡ true → wanted wish kind ≡ true → ReasonOf ss kind c r → wanted r.softs kind ≡ true
-wanted_by wish ss Hard c r few w of = refl
-wanted_by wish ss (Soft j) c r few w of =
-    of.1 j ∙ or_left (is_number (Soft j) j) _ (and_from (eqb j j) (ltb j 64) (eq-eqb j j refl) (lt-ltb j 64 ((below_members 64 wish).0 few j w)))
+wanted_by : (wish : ℕ) (kind : ClauseKind) (r : Reason) → below SOFT_PLACES wish ≡ true → wanted wish kind ≡ true → ((k : ℕ) → is_number kind k ≡ true → member r.softs k ≡ true) → wanted r.softs kind ≡ true
+wanted_by wish Hard r few w own = refl
+wanted_by wish (Soft j) r few w own = own j (and_from (eqb j j) (ltb j SOFT_PLACES) (eq-eqb j j refl) (lt-ltb j SOFT_PLACES ((below_members SOFT_PLACES wish).0 few j w)))
 
 -- a soft clause that the value of a literal rests on is of the set
-soft_among : (t : Table) (wish : ℕ) (cs : List (Option Bool)) (v k : ℕ) (s : Slot) → Backed t wish cs v s → rests_on_soft s k ≡ true → member wish k ≡ true
-soft_among t wish cs v k Unset h e = absurd (both_ways false refl e)
-soft_among t wish cs v k (Decided b d) h e = absurd (both_ways false refl e)
-soft_among t wish cs v k (Implied b d r) h e = h.0 k e
+soft_among : (q : Query) (cs : List (Option Bool)) (v k : ℕ) (s : Slot) → Backed q cs v s → rests_on_soft s k ≡ true → member q.set k ≡ true
+soft_among q cs v k Unset h e = absurd (both_ways false refl e)
+soft_among q cs v k (Decided b d) h e = absurd (both_ways false refl e)
+soft_among q cs v k (Implied b d r) h e = h.0 k e
 
-softs_among : (t : Table) (wish k : ℕ) (ss : List Slot) (c : List ℤ) → Sound t wish ss → All (λ l. bad_literal t.n l ≡ false) c
-    → list_any (λ l. rests_on_soft (slot_at ss (place l)) k) c ≡ true → member wish k ≡ true
-softs_among t wish k ss [] sound good h = absurd (both_ways false refl h)
-softs_among t wish k ss (l ∷ c) sound good h =
+softs_among : (q : Query) (k : ℕ) (ss : List Slot) (c : List ℤ) → Sound q ss → All (λ l. bad_literal q.table.n l ≡ false) c
+    → list_any (λ l. rests_on_soft (slot_at ss (place l)) k) c ≡ true → member q.set k ≡ true
+softs_among q k ss [] sound good h = absurd (both_ways false refl h)
+softs_among q k ss (l ∷ c) sound good h =
     ⊎_elim
-    (λ e. let within = place_within t.n l (All-head (λ x. bad_literal t.n x ≡ false) l c good) in
-    soft_among t wish (decisions ss) (place l) k (slot_at ss (place l)) (sound.backed (place l) (omega (arith, within, sound.wide))) e)
-    (λ e. softs_among t wish k ss c sound (All-rest (λ x. bad_literal t.n x ≡ false) l c _ refl good) e)
+    (λ e. let within = place_within q.table.n l (All-head (λ x. bad_literal q.table.n x ≡ false) l c good) in
+    soft_among q (decisions ss) (place l) k (slot_at ss (place l)) (sound.backed (place l) (omega (arith, within, sound.wide))) e)
+    (λ e. softs_among q k ss c sound (All-rest (λ x. bad_literal q.table.n x ≡ false) l c _ refl good) e)
     (or_cases (rests_on_soft (slot_at ss (place l)) k) (list_any (λ x. rests_on_soft (slot_at ss (place x)) k) c) h)
 
 number_among : (wish k : ℕ) (kind : ClauseKind) → wanted wish kind ≡ true → is_number kind k ≡ true → member wish k ≡ true
 number_among wish k Hard w h = absurd (both_ways false refl h)
-number_among wish k (Soft j) w h = subst (λ i. member wish i ≡ true) (eqb-true j k (and_parts (eqb j k) (ltb k 64) h).0) w
+number_among wish k (Soft j) w h = subst (λ i. member wish i ≡ true) (eqb-true j k (and_parts (eqb j k) (ltb k SOFT_PLACES) h).0) w
 
-module _ (t : Table) (wish : ℕ) (ss : List Slot) (e : Entry) (r : Reason) (sound : Sound t wish ss) (belongs : Belongs t e)
-    (w : wanted wish e.kind ≡ true) (few : below 64 wish ≡ true) (of : ReasonOf ss e.kind e.clause r) where
-  among : Subset r.softs wish
+module _ (q : Query) (ss : List Slot) (e : Entry) (r : Reason) (sound : Sound q ss) (asked : IsAsked q e)
+    (few : below SOFT_PLACES q.set ≡ true) (of : IsReason ss e r) where
+  among : Subset r.softs q.set
   among k h =
-      ⊎_elim (number_among wish k e.kind w) (softs_among t wish k ss e.clause sound belongs.0)
+      ⊎_elim (number_among q.set k e.kind asked.1) (softs_among q k ss e.clause sound asked.0.0)
       (or_cases (is_number e.kind k) (list_any (λ l. rests_on_soft (slot_at ss (place l)) k) e.clause) (sym (of.1 k) ∙ h))
 
-  satisfied : (a : List ℕ) → Satisfies t r.softs a → satisfied_by a e.clause ≡ true
-  satisfied a s = wanted_met (wanted r.softs e.kind) (satisfied_by a e.clause) (wanted_by wish ss e.kind e.clause r few w of) (belongs.1 r.softs a s.1)
+  satisfied : (a : List ℕ) → Satisfies q.table r.softs a → satisfied_by a e.clause ≡ true
+  satisfied a s = wanted_met (wanted r.softs e.kind) (satisfied_by a e.clause) (wanted_by q.set e.kind r few asked.1 (λ k own. of.1 k ∙ or_left (is_number e.kind k) _ own)) (asked.0.1 r.softs a s.1)
 
   -- a broken clause shows that no assignment is left
-  pub excludes_broken : status ss e.clause ≡ Broken → Excludes t wish (decisions ss) r
+  pub excludes_broken : status ss e.clause ≡ Broken → Excludes q (decisions ss) r
   excludes_broken h =
       let p = broken_status (list_any (is_true ss) e.clause) (filter (is_unassigned ss) e.clause) h in
       record {
         among = among;
         none = λ a s f. both_ways (satisfied_by a e.clause)
-            (broken_clause t wish ss r a sound s f e.clause belongs.0 (rested ss e.kind e.clause r of) p.0 p.1)
+            (broken_clause q ss r a sound s f e.clause asked.0.0 (rested ss e r of) p.0 p.1)
             (satisfied a s);
       }
 
   -- the last literal of a clause is true in each assignment that is left
-  pub backed_last : (u : ℤ) (level : ℕ) → status ss e.clause ≡ UnitClause u → Backed t wish (decisions ss) (place u) (Implied (positive u) level r)
+  pub backed_last : (u : ℤ) (level : ℕ) → status ss e.clause ≡ UnitClause u → Backed q (decisions ss) (place u) (Implied (positive u) level r)
   backed_last u level h =
       let p = last_status (list_any (is_true ss) e.clause) (filter (is_unassigned ss) e.clause) u h in
-      let unassigned = last_unassigned t wish ss e u belongs sound h in (
+      let unassigned = last_unassigned q ss e u asked.0 sound h in (
         among,
         λ a s f.
-            let made = unit_clause t wish ss r a sound s f e.clause u belongs.0 (rested ss e.kind e.clause r of) p.0 p.1 (satisfied a s) in
+            let made = unit_clause q ss r a sound s f e.clause u asked.0.0 (rested ss e r of) p.0 p.1 (satisfied a s) in
             same_sign (bit a (place u)) (positive u)
-            (sym (true_is t.n a u s.0 (subst (λ n. bad_literal n u ≡ false) sound.wide unassigned.0)) ∙ made),
+            (sym (true_is q.table.n a u s.0 (subst (λ n. bad_literal n u ≡ false) sound.wide unassigned.0)) ∙ made),
       )
     where
       same_sign : (x y : Bool) → same x y ≡ true → x ≡ y
@@ -163,28 +159,19 @@ module _ (t : Table) (wish : ℕ) (ss : List Slot) (e : Entry) (r : Reason) (sou
       same_sign false false h = refl
 
 -- ---- what is left once the last literal is made true
-pub record LastImplied (t : Table) (wish level : ℕ) (ss ts : List Slot) (e : Entry) (u : ℤ) : Type 0 where
-  pub extends : Extends level ss ts
-  pub sound : Sound t wish ts
-  pub fewer : unset ts < unset ss
-  pub proper : bad_literal t.n u ≡ false
-  pub keeps : Keeps t wish u ss ts
-  -- the clause itself has a true literal now
-  pub own : is_quiet wish ts e ≡ true
-
-pub last_implied : (t : Table) (wish level : ℕ) (ss ts : List Slot) (e : Entry) (r : Reason) (u : ℤ) → Sound t wish ss → Belongs t e → status ss e.clause ≡ UnitClause u
-    → ts ≡ set ss (place u) (Implied (positive u) level r) → wanted wish e.kind ≡ true → below 64 wish ≡ true → ReasonOf ss e.kind e.clause r → LastImplied t wish level ss ts e u
-last_implied t wish level ss ts e r u sound belongs last implied w few of =
+pub last_implied : (q : Query) (level : ℕ) (ss ts : List Slot) (e : Entry) (r : Reason) (u : ℤ) → Sound q ss → IsAsked q e → status ss e.clause ≡ UnitClause u
+    → ts ≡ set ss (place u) (Implied (positive u) level r) → below SOFT_PLACES q.set ≡ true → IsReason ss e r → ImpliesLast q level ss ts e u
+last_implied q level ss ts e r u sound asked last implied few of =
     let value = Implied (positive u) level r in
-    let unassigned = last_unassigned t wish ss e u belongs sound last in
+    let unassigned = last_unassigned q ss e u asked.0 sound last in
     let within = place_within (length ss) u unassigned.0 in
     let alone = (last_status (list_any (is_true ss) e.clause) (filter (is_unassigned ss) e.clause) u last).1 in
     record {
       extends = subst (Extends level ss) (sym implied) (extends_implied level ss (place u) (positive u) r within unassigned.1);
-      sound = subst (Sound t wish) (sym implied)
-          (sound_implied t wish ss (place u) (positive u) level r within unassigned.1 sound (backed_last t wish ss e r sound belongs w few of u level last));
+      sound = subst (Sound q) (sym implied)
+          (sound_implied q ss (place u) (positive u) level r within unassigned.1 sound (backed_last q ss e r sound asked few of u level last));
       fewer = omega (arith, ap unset implied, unset_set ss (place u) value within unassigned.1 refl);
       proper = subst (λ n. bad_literal n u ≡ false) sound.wide unassigned.0;
-      keeps = quiet_kept t.n ss ts u value unassigned sound.wide refl implied wish;
-      own = quiet_made t.n ss ts u value unassigned sound.wide refl implied wish e (stands_of_open ss e.clause u alone);
+      keeps = quiet_kept q.table.n ss ts u value unassigned sound.wide refl implied q.set;
+      own = quiet_made q.table.n ss ts u value unassigned sound.wide refl implied q.set e (stands_of_open ss e.clause u alone);
     }

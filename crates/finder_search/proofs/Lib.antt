@@ -1,6 +1,6 @@
 pub mod Extending
 pub mod Soundness
-pub mod Literals
+pub mod LiteralLaws
 pub mod Reasoning
 pub mod Quietness
 pub mod Implying

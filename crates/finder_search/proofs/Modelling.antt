@@ -7,14 +7,15 @@ use Rattle.std.proofs.lemmas.List.{length-map}
 use Rattle.std.proofs.lemmas.List.Elements.{All-head, All-rest}
 use Rattle.terms.specs.Clauses.{Assignment, binary, true_in, satisfied_by, bad_literal}
 use Rattle.clause_tables.specs.Entries.{Entry, IsProper}
-use Rattle.clause_tables.specs.Table.{Table}
 use Rattle.clause_tables.specs.Wanted.{wanted, met, all_met}
-use Rattle.finder_search.specs.Trail.{place, positive, same, slot_at, value_of, byte_of}
 use Rattle.finder_search.specs.ClauseStatus.{truth, is_so, is_true}
-use Rattle.finder_search.specs.Searching.{Satisfies, is_met}
+use Rattle.finder_search.specs.Literals.{place, positive, same}
+use Rattle.finder_search.specs.Propagation.{is_met}
+use Rattle.finder_search.specs.Query.{Satisfies, Query}
+use Rattle.finder_search.specs.Trail.{slot_at, value_of, byte_of}
 use Rattle.finder_search.specs.declared.trail.Slot.{Slot}
 use Rattle.finder_search.specs.declared.trail.Slot.TheVariants.{Unset, Decided, Implied}
-use Rattle.finder_search.proofs.Literals.{true_is}
+use Rattle.finder_search.proofs.LiteralLaws.{true_is}
 
 bytes_binary : (ss : List Slot) → binary (map byte_of ss) ≡ true
 bytes_binary [] = refl
@@ -61,5 +62,5 @@ module _ (n : ℕ) (ss : List Slot) (wide : length ss ≡ n) where
       (or_cases (not (wanted wish e.kind)) (list_any (is_true ss) e.clause) p.0))
       (bytes_meet wish es (All-rest (IsProper n) e es _ refl good) p.1)
 
-pub bytes_model : (t : Table) (wish : ℕ) (ss : List Slot) → length ss ≡ t.n → All (IsProper t.n) t.entries → list_all (is_met wish ss) t.entries ≡ true → Satisfies t wish (map byte_of ss)
-bytes_model t wish ss wide good h = (bytes_assign t.n ss wide, bytes_meet t.n ss wide wish t.entries good h)
+pub bytes_model : (q : Query) (ss : List Slot) → length ss ≡ q.table.n → All (IsProper q.table.n) q.table.entries → list_all (is_met q.set ss) q.table.entries ≡ true → Satisfies q.table q.set (map byte_of ss)
+bytes_model q ss wide good h = (bytes_assign q.table.n ss wide, bytes_meet q.table.n ss wide q.set q.table.entries good h)

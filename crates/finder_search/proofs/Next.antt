@@ -2,8 +2,9 @@
 use Rattle.std.proofs.Common.{◌≡◌, ℕ, true, ◌&&◌, List, ◌∷◌, All, ℤ, Some, None, Option, refl, ap, ◌∙◌}
 use Rattle.std.specs.List.{list_all}
 use Rattle.clause_tables.specs.Entries.{Entry}
-use Rattle.clause_tables.specs.Table.{Table}
-use Rattle.finder_search.specs.Searching.{OpenIn, is_met, is_quiet}
+use Rattle.finder_search.specs.Propagation.{is_met, is_quiet}
+use Rattle.finder_search.specs.Query.{Query}
+use Rattle.finder_search.specs.Splitting.{OpenIn}
 use Rattle.finder_search.specs.declared.trail.Slot.{Slot}
 
 -- each clause is quiet
@@ -11,11 +12,11 @@ abbrev pub AllQuiet : ℕ → List Slot → List Entry → Type 0
 AllQuiet set ss es = All (λ e. is_quiet set ss e ≡ true) es
 
 -- all clauses are met where the rest are
-abbrev pub MetBefore : Table → ℕ → List Slot → List Entry → Type 0
-MetBefore t set ss rest = list_all (is_met set ss) t.entries ≡ list_all (is_met set ss) rest
+abbrev pub MetBefore : Query → List Slot → List Entry → Type 0
+MetBefore q ss rest = list_all (is_met q.set ss) q.table.entries ≡ list_all (is_met q.set ss) rest
 
 -- a clause without an open literal is passed over
-pub met_more : (t : Table) (set : ℕ) (ss : List Slot) (e : Entry) (rest : List Entry) (here : Option ℤ) → ((l : ℤ) → here ≡ Some l → ⊥) → is_quiet set ss e ≡ true → OpenIn set ss e here
-    → MetBefore t set ss (e ∷ rest) → MetBefore t set ss rest
-met_more t set ss e rest None none quiet here so = so ∙ ap (λ b. b && list_all (is_met set ss) rest) (here quiet)
-met_more t set ss e rest (Some l) none quiet here so = absurd (none l refl)
+pub met_more : (q : Query) (ss : List Slot) (e : Entry) (rest : List Entry) (here : Option ℤ) → ((l : ℤ) → here ≡ Some l → ⊥) → is_quiet q.set ss e ≡ true → OpenIn q.set ss e here
+    → MetBefore q ss (e ∷ rest) → MetBefore q ss rest
+met_more q ss e rest None none quiet here so = so ∙ ap (λ b. b && list_all (is_met q.set ss) rest) (here quiet)
+met_more q ss e rest (Some l) none quiet here so = absurd (none l refl)

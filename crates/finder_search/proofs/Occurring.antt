@@ -12,13 +12,15 @@ use Rattle.std.specs.List.{IsLastAndRest, list_any}
 use Rattle.std.specs.Ordering.{int_eq}
 use Rattle.terms.specs.Clauses.{bad_literal, variable}
 use Rattle.clause_tables.specs.Entries.{Entry, IsProper, literal_count}
-use Rattle.clause_tables.specs.Table.{Table}
 use Rattle.clause_tables.specs.Wanted.{wanted}
-use Rattle.finder_search.specs.Trail.{row}
-use Rattle.finder_search.specs.Occurrences.{AddsClause, chain, has_number, numbers_with, occurs, occurs_in}
+use Rattle.finder_search.specs.Literals.{row}
+use Rattle.finder_search.specs.Occurrences.{AddsClause, chain, has_number, numbers_with, occurs, occurs_in, occurs_among}
 use Rattle.finder_search.specs.declared.occurrences.Node.{Node}
 use Rattle.finder_search.specs.declared.occurrences.Occurrences.{Occurrences}
-use Rattle.finder_search.proofs.Literals.{place_within}
+use Rattle.finder_search.proofs.LiteralLaws.{place_within}
+use Rattle.finder_search.specs.Query.{Query}
+use Rattle.finder_search.specs.declared.literals.TheConstants.{LITERAL_ROWS}
+use Rattle.terms.specs.declared.limits.TheConstants.{MOST_VARIABLES, TABLE_PLACES}
 
 -- ---- a chain
 chain_none : (ns : List Node) (h : ℕ) → h ≡ 0 → chain ns h ≡ []
@@ -63,9 +65,9 @@ one_along ns part older n h e long last =
     ∙ chain_newest n (reverse older) h (omega (arith, end, last.1))
 
 -- ---- rows
-pub row_within : (l : ℤ) → bad_literal 256 l ≡ false → row l < 512
-row_within (pos k) h = omega (arith, place_within 256 (pos k) h)
-row_within (negsuc k) h = omega (arith, place_within 256 (negsuc k) h)
+pub row_within : (l : ℤ) → bad_literal MOST_VARIABLES l ≡ false → row l < LITERAL_ROWS
+row_within (pos k) h = omega (arith, place_within MOST_VARIABLES (pos k) h)
+row_within (negsuc k) h = omega (arith, place_within MOST_VARIABLES (negsuc k) h)
 
 row_one : (n : ℕ) (x l : ℤ) → bad_literal n x ≡ false → bad_literal n l ≡ false → row x ≡ row l → x ≡ l
 row_one n (pos zero) l g h e = absurd (both_ways true g refl)
@@ -78,7 +80,7 @@ row_one n (negsuc a) (negsuc b) g h e = ap negsuc (let z : a ≡ b = omega arith
 
 -- ---- one more node, in front of the chain of the literal x
 -- a chain is longer by the node where it is that of x, and else as before
-longer : (hs : List ℕ) (older : List Node) (newest : Node) (x l : ℤ) → bad_literal 256 x ≡ false → bad_literal 256 l ≡ false → 512 ≤ length hs
+longer : (hs : List ℕ) (older : List Node) (newest : Node) (x l : ℤ) → bad_literal MOST_VARIABLES x ≡ false → bad_literal MOST_VARIABLES l ≡ false → LITERAL_ROWS ≤ length hs
     → newest.next ≡ get_or hs (row x) 0 → All (λ h. h ≤ length older) hs
     → chain (newest ∷ older) (get_or (set hs (row x) (suc (length older))) (row l) 0)
     ≡ (if int_eq x l then newest.number ∷ chain older (get_or hs (row l) 0) else chain older (get_or hs (row l) 0))
@@ -92,12 +94,12 @@ longer hs older newest x l good fine long next rooted = by (int_eq x l) (Decides
         ∙ chain_newest newest older _ (get_or-set_same hs (row x) (suc (length older)) 0 (omega (arith, row_within x good, long)))
         ∙ ap (λ z. newest.number ∷ chain older z) (next ∙ ap (λ z. get_or hs (row z) 0) same)
     by false d =
-        let differ : row l ≢ row x = λ e. both_ways false refl (d.1 (row_one 256 x l good fine (sym e))) in
+        let differ : row l ≢ row x = λ e. both_ways false refl (d.1 (row_one MOST_VARIABLES x l good fine (sym e))) in
         ap (chain (newest ∷ older)) (get_or-set_other hs (row x) (row l) (suc (length older)) 0 differ)
         ∙ chain_older newest older (get_or hs (row l) 0) (rooted (row l) 0 (omega (arith, row_within l fine, long)))
 
-pub pushed : (hs : List ℕ) (ns : List Node) (used number r : ℕ) (x l : ℤ) → r ≡ row x → bad_literal 256 x ≡ false → bad_literal 256 l ≡ false
-    → 512 ≤ length hs → used < length ns → All (λ h. h ≤ used) hs
+pub pushed : (hs : List ℕ) (ns : List Node) (used number r : ℕ) (x l : ℤ) → r ≡ row x → bad_literal MOST_VARIABLES x ≡ false → bad_literal MOST_VARIABLES l ≡ false
+    → LITERAL_ROWS ≤ length hs → used < length ns → All (λ h. h ≤ used) hs
     → chain (reverse (take (used + 1) (set ns used (record { number = number; next = get_or hs r 0 })))) (get_or (set hs r (used + 1)) (row l) 0)
     ≡ (if int_eq x l then number ∷ chain (reverse (take used ns)) (get_or hs (row l) 0) else chain (reverse (take used ns)) (get_or hs (row l) 0))
 pushed hs ns used number r x l is good fine long room rooted =
@@ -119,7 +121,7 @@ none_before s set l [] k h = refl
 none_before s set l (e ∷ es) k h =
     ap₂ (λ b c. (b && (wanted set e.kind && occurs_in l e)) || c) (ne_eqb s k (λ z. omega arith)) (none_before (suc s) set l es k (omega arith))
 
-occurs_at : (s set : ℕ) (l : ℤ) (es : List Entry) (k : ℕ) → occurs_from s set l es (s + k) ≡ occurs set l es k
+occurs_at : (s set : ℕ) (l : ℤ) (es : List Entry) (k : ℕ) → occurs_from s set l es (s + k) ≡ occurs_among set l es k
 occurs_at s set l [] k = refl
 occurs_at s set l (e ∷ es) zero =
     ap₂ (λ b c. (b && (wanted set e.kind && occurs_in l e)) || c) (eq-eqb s (s + 0) (omega arith)) (none_before (suc s) set l es (s + 0) (omega arith))
@@ -128,7 +130,7 @@ occurs_at s set l (e ∷ es) (suc k) =
     let further : s + suc k ≡ suc s + k = omega arith in
     ap₂ (λ b c. (b && (wanted set e.kind && occurs_in l e)) || c) (ne_eqb s (s + suc k) (λ z. omega arith)) (ap (occurs_from (suc s) set l es) further ∙ occurs_at (suc s) set l es k)
 
-pub occurs_all : (set : ℕ) (l : ℤ) (es : List Entry) (k : ℕ) → occurs_from 0 set l es k ≡ occurs set l es k
+pub occurs_all : (set : ℕ) (l : ℤ) (es : List Entry) (k : ℕ) → occurs_from 0 set l es k ≡ occurs_among set l es k
 occurs_all set l es k = ap (occurs_from 0 set l es) (let z : k ≡ 0 + k = omega arith in z) ∙ occurs_at 0 set l es k
 
 -- ---- one literal more of the clause with this number
@@ -160,40 +162,40 @@ good_more m n l wider h =
     or_from (eqb (variable l) 0) (ltb n (variable l)) p.0 (le-ltb n (variable l) (omega (arith, ltb-false m (variable l) p.1)))
 
 -- ---- what holds while clauses are still to come, the first of them with this number
-pub record Coming (t : Table) (set number : ℕ) (o : Occurrences) (rest : List Entry) : Type 0 where
-  pub proper : All (IsProper 256) rest
-  pub few : number + length rest ≤ 32768
-  pub short : o.used + literal_count rest ≤ 32768
-  pub told : (l : ℤ) → bad_literal t.n l ≡ false → (k : ℕ) → (has_number (numbers_with o l) k || occurs_from number set l rest k) ≡ occurs set l t.entries k
+pub record Coming (q : Query) (number : ℕ) (o : Occurrences) (rest : List Entry) : Type 0 where
+  pub proper : All (IsProper MOST_VARIABLES) rest
+  pub few : number + length rest ≤ TABLE_PLACES
+  pub short : o.used + literal_count rest ≤ TABLE_PLACES
+  pub told : (l : ℤ) → bad_literal q.table.n l ≡ false → (k : ℕ) → (has_number (numbers_with o l) k || occurs_from number q.set l rest k) ≡ occurs q l k
 
-pub coming_first : (t : Table) (set : ℕ) (o : Occurrences) (es : List Entry) → es ≡ t.entries → t.n ≤ 256 → All (IsProper t.n) t.entries → length t.entries ≤ 32768 → literal_count t.entries ≤ 32768
-    → o.used ≡ 0 → ((l : ℤ) → numbers_with o l ≡ []) → Coming t set 0 o es
-coming_first t set o es all narrow proper few short unused none = subst (Coming t set 0 o) (sym all) (record {
-  proper = All-weaker (IsProper t.n) (IsProper 256) (λ e. All-weaker (λ x. bad_literal t.n x ≡ false) (λ x. bad_literal 256 x ≡ false) (λ x. good_more t.n 256 x narrow) e.clause) t.entries proper;
+pub coming_first : (q : Query) (o : Occurrences) (es : List Entry) → es ≡ q.table.entries → q.table.n ≤ MOST_VARIABLES → All (IsProper q.table.n) q.table.entries → length q.table.entries ≤ TABLE_PLACES → literal_count q.table.entries ≤ TABLE_PLACES
+    → o.used ≡ 0 → ((l : ℤ) → numbers_with o l ≡ []) → Coming q 0 o es
+coming_first q o es all narrow proper few short unused none = subst (Coming q 0 o) (sym all) (record {
+  proper = All-weaker (IsProper q.table.n) (IsProper MOST_VARIABLES) (λ e. All-weaker (λ x. bad_literal q.table.n x ≡ false) (λ x. bad_literal MOST_VARIABLES x ≡ false) (λ x. good_more q.table.n MOST_VARIABLES x narrow) e.clause) q.table.entries proper;
   few = omega arith;
   short = omega arith;
-  told = λ l good k. ap (λ js. has_number js k || occurs_from 0 set l t.entries k) (none l) ∙ occurs_all set l t.entries k;
+  told = λ l good k. ap (λ js. has_number js k || occurs_from 0 q.set l q.table.entries k) (none l) ∙ occurs_all q.set l q.table.entries k;
 })
 
-pub coming_here : (t : Table) (set number : ℕ) (o : Occurrences) (e : Entry) (rest es : List Entry) → Coming t set number o es → es ≡ e ∷ rest
-    → IsProper 256 e × (o.used + length e.clause ≤ 32768) × (number < 32768)
-coming_here t set number o e rest es so is =
-    let here = subst (Coming t set number o) is so in
-    (All-head (IsProper 256) e rest here.proper, omega (arith, here.short, sum_by-cons (λ x. length x.clause) e rest), omega (arith, here.few))
+pub coming_here : (q : Query) (number : ℕ) (o : Occurrences) (e : Entry) (rest es : List Entry) → Coming q number o es → es ≡ e ∷ rest
+    → IsProper MOST_VARIABLES e × (o.used + length e.clause ≤ TABLE_PLACES) × (number < TABLE_PLACES)
+coming_here q number o e rest es so is =
+    let here = subst (Coming q number o) is so in
+    (All-head (IsProper MOST_VARIABLES) e rest here.proper, omega (arith, here.short, sum_by-cons (λ x. length x.clause) e rest), omega (arith, here.few))
 
-pub coming_more : (t : Table) (set number next : ℕ) (o p : Occurrences) (e : Entry) (rest es : List Entry) → t.n ≤ 256 → Coming t set number o es → es ≡ e ∷ rest → next ≡ number + 1
+pub coming_more : (q : Query) (number next : ℕ) (o p : Occurrences) (e : Entry) (rest es : List Entry) → q.table.n ≤ MOST_VARIABLES → Coming q number o es → es ≡ e ∷ rest → next ≡ number + 1
     → p.used ≤ o.used + length e.clause
-    → AddsClause o p set number e → Coming t set next p rest
-coming_more t set number next o p e rest es narrow coming first is used added = let so = subst (Coming t set number o) first coming in record {
-  proper = All-rest (IsProper 256) e rest (e ∷ rest) refl so.proper;
+    → AddsClause o p q.set number e → Coming q next p rest
+coming_more q number next o p e rest es narrow coming first is used added = let so = subst (Coming q number o) first coming in record {
+  proper = All-rest (IsProper MOST_VARIABLES) e rest (e ∷ rest) refl so.proper;
   few = omega (arith, so.few);
   short = omega (arith, so.short, sum_by-cons (λ x. length x.clause) e rest);
   told = λ l good k.
-      ap₂ (λ b j. b || occurs_from j set l rest k) (added l (good_more t.n 256 l narrow good) k) (let z : next ≡ suc number = omega arith in z)
-      ∙ or_assoc (has_number (numbers_with o l) k) (eqb number k && (wanted set e.kind && occurs_in l e)) (occurs_from (suc number) set l rest k)
+      ap₂ (λ b j. b || occurs_from j q.set l rest k) (added l (good_more q.table.n MOST_VARIABLES l narrow good) k) (let z : next ≡ suc number = omega arith in z)
+      ∙ or_assoc (has_number (numbers_with o l) k) (eqb number k && (wanted q.set e.kind && occurs_in l e)) (occurs_from (suc number) q.set l rest k)
       ∙ so.told l good k;
 }
 
-pub all_told : (t : Table) (set number : ℕ) (o : Occurrences) (es : List Entry) → Coming t set number o es → es ≡ []
-    → (l : ℤ) → bad_literal t.n l ≡ false → (k : ℕ) → has_number (numbers_with o l) k ≡ occurs set l t.entries k
-all_told t set number o es so none l good k = sym (or-false (has_number (numbers_with o l) k)) ∙ (subst (Coming t set number o) none so).told l good k
+pub all_told : (q : Query) (number : ℕ) (o : Occurrences) (es : List Entry) → Coming q number o es → es ≡ []
+    → (l : ℤ) → bad_literal q.table.n l ≡ false → (k : ℕ) → has_number (numbers_with o l) k ≡ occurs q l k
+all_told q number o es so none l good k = sym (or-false (has_number (numbers_with o l) k)) ∙ (subst (Coming q number o) none so).told l good k

@@ -9,13 +9,14 @@ use Rattle.std.proofs.lemmas.List.Elements.{All-head, All-rest}
 use Rattle.terms.specs.Clauses.{bad_literal}
 use Rattle.clause_tables.specs.Entries.{Entry, IsProper}
 use Rattle.clause_tables.specs.Wanted.{wanted}
+use Rattle.finder_search.specs.ClauseStatus.{truth, is_so, is_true}
+use Rattle.finder_search.specs.Literals.{place, positive, negated, same}
 use Rattle.finder_search.specs.Occurrences.{occurs_in}
-use Rattle.finder_search.specs.Trail.{place, positive, negated, same, slot_at, value_of, is_unset}
-use Rattle.finder_search.specs.ClauseStatus.{truth, is_so, is_true, is_unassigned}
-use Rattle.finder_search.specs.Searching.{Unassigned, is_met, is_quiet, is_several}
+use Rattle.finder_search.specs.Propagation.{is_met, is_quiet, is_several}
+use Rattle.finder_search.specs.Trail.{slot_at, value_of, is_unset, is_unassigned, Unassigned}
 use Rattle.finder_search.specs.declared.trail.Slot.{Slot}
 use Rattle.finder_search.specs.declared.trail.Slot.TheVariants.{Unset}
-use Rattle.finder_search.proofs.Literals.{place_within}
+use Rattle.finder_search.proofs.LiteralLaws.{place_within}
 
 -- ---- a literal of the same variable is the literal or its opposite
 same_place : (n : ℕ) (l u : ℤ) → bad_literal n l ≡ false → bad_literal n u ≡ false → place l ≡ place u → (l ≡ u) ⊎ (l ≡ negated u)

@@ -1,8 +1,11 @@
+pub mod Literals
 pub mod VariableSets
 pub mod Trail
 pub mod ClauseStatus
+pub mod Query
 pub mod Reasons
 pub mod Occurrences
-pub mod Searching
-pub mod Hunts
+pub mod Propagation
+pub mod Splitting
+pub mod Question
 pub mod Finder

@@ -1,34 +1,11 @@
--- How the variables stand while a search is on, and what their values rest on.
-use Rattle.std.specs.Prelude.{ℕ, zero, suc, ◌+◌, ◌-◌, ◌*◌, Bool, true, false, not, if◌then◌else◌, List, [], ◌∷◌, ℤ, pos, negsuc, Some, None, Option, ◌==◌, nat_lt, slice_index_or}
-use Rattle.terms.specs.Clauses.{variable}
+-- How each variable stands while a search is on: its value, the level at which it got that, and what that rests on.
+use Rattle.std.specs.Prelude.{◌≡◌, ℕ, ◌+◌, ◌<◌, ◌≤◌, Bool, true, false, if◌then◌else◌, List, [], ◌∷◌, map, length, ℤ, Some, None, Option, ◌==◌, nat_lt, slice_index_or}
+use Rattle.terms.specs.Clauses.{bad_literal}
 use Rattle.terms.specs.Masks.{member}
+use Rattle.finder_search.specs.Literals.{place}
 use Rattle.finder_search.specs.VariableSets.{has}
 use Rattle.finder_search.specs.declared.trail.Slot.{Slot}
 use Rattle.finder_search.specs.declared.trail.Slot.TheVariants.{Unset, Decided, Implied}
-
--- ---- variables and literals: variable v has place v - 1
-abbrev pub place : ℤ → ℕ
-place l = variable l - 1
-
--- the literal is a variable's own, and not its opposite
-abbrev pub positive : ℤ → Bool
-positive (pos v) = true
-positive (negsuc k) = false
-
--- the literal of the same variable with the other sign
-abbrev pub negated : ℤ → ℤ
-negated (pos zero) = pos zero
-negated (pos (suc k)) = negsuc k
-negated (negsuc k) = pos (suc k)
-
--- a variable's two literals have neighbouring rows, the positive one first
-abbrev pub row : ℤ → ℕ
-row l = 2 * place l + (if positive l then 0 else 1)
-
--- two truths are the same
-abbrev pub same : Bool → Bool → Bool
-same true b = b
-same false b = not b
 
 abbrev pub slot_at : List Slot → ℕ → Slot
 slot_at ss v = slice_index_or ss v Unset
@@ -55,8 +32,24 @@ unfoldable pub unset : List Slot → ℕ
 unset [] = 0
 unset (s ∷ ss) = (if is_unset s then 1 else 0) + unset ss
 
--- ---- what a value rests on
--- a value that the search tries rests on that decision of the variable, which has this place, and on nothing else
+abbrev pub is_unassigned : List Slot → ℤ → Bool
+is_unassigned ss l = is_unset (slot_at ss (place l))
+
+-- a literal whose variable has no value
+abbrev pub Unassigned : List Slot → ℤ → Type 0
+Unassigned ss l = (bad_literal (length ss) l ≡ false) × (is_unassigned ss l ≡ true)
+
+-- ---- decisions
+abbrev pub decision_of : Slot → Option Bool
+decision_of Unset = None
+decision_of (Decided b d) = Some b
+decision_of (Implied b d r) = None
+
+-- what the search has decided for each variable
+abbrev pub decisions : List Slot → List (Option Bool)
+decisions = map decision_of
+
+-- a value that was decided rests on that decision of the variable, which has this place, and on nothing else
 abbrev pub rests_on_decision : Slot → ℕ → ℕ → Bool
 rests_on_decision Unset p v = false
 rests_on_decision (Decided b d) p v = p == v
@@ -67,8 +60,13 @@ rests_on_soft Unset k = false
 rests_on_soft (Decided b d) k = false
 rests_on_soft (Implied b d r) k = member r.softs k
 
--- ---- depths
--- the variable was set deeper than this
+-- ---- levels
+abbrev pub level_of : Slot → ℕ
+level_of Unset = 0
+level_of (Decided b d) = d
+level_of (Implied b d r) = d
+
+-- the variable was set deeper than this level
 abbrev pub is_deeper : ℕ → Slot → Bool
 is_deeper level Unset = false
 is_deeper level (Decided b d) = nat_lt level d
@@ -77,3 +75,15 @@ is_deeper level (Implied b d r) = nat_lt level d
 -- the slot where all that is deeper is unset
 abbrev pub undone : ℕ → Slot → Slot
 undone level s = if is_deeper level s then Unset else s
+
+-- no variable is set deeper
+unfoldable pub Within : ℕ → List Slot → Type 0
+Within level ss = (v : ℕ) → v < length ss → level_of (slot_at ss v) ≤ level
+
+-- from ss to ts values were implied at this level, for variables that had none, and nothing else was done
+pub record Extends (level : ℕ) (ss ts : List Slot) : Type 0 where
+  pub decided : decisions ts ≡ decisions ss
+  pub below : (d : ℕ) → d < level → map (undone d) ts ≡ map (undone d) ss
+  pub kept : (v : ℕ) → is_unset (slot_at ss v) ≡ false → slot_at ts v ≡ slot_at ss v
+  pub fewer : unset ts ≤ unset ss
+  pub within : Within level ss → Within level ts

@@ -2,12 +2,14 @@
 ghost use Rattle.std.specs.Prelude.{◌≡◌, false, not, All, List, ◌++◌, ◌∷◌, [], ℤ, length};
 ghost use Rattle.std.specs.Option.{is_some};
 ghost use Rattle.terms.specs.Clauses.{bad_literal};
-ghost use Rattle.finder_search.specs.Trail.{place, slot_at, value_of};
-ghost use Rattle.finder_search.specs.ClauseStatus.{is_unassigned, left_with, status, truth};
+ghost use Rattle.finder_search.specs.ClauseStatus.{left_with, status, truth};
+ghost use Rattle.finder_search.specs.Literals.{place};
+ghost use Rattle.finder_search.specs.Trail.{is_unassigned, slot_at, value_of};
 
-use crate::trail::{Slot, place_of};
+use crate::literals::place_of;
+use crate::trail::Slot;
 
-/// How the clause stands. A literal that is written twice counts twice.
+/// How a clause stands. A literal that is written twice counts twice: (1, 1) without a value is open.
 #[derive(Clone, Copy, PartialEq, Eq, Debug)]
 pub(crate) enum ClauseStatus {
     /// A literal is true.
@@ -21,7 +23,7 @@ pub(crate) enum ClauseStatus {
 }
 
 impl ClauseStatus {
-    /// How the clause stands with one literal more that has no value.
+    /// The status with one literal more that has no value.
     #[tactic(auto, using(crate::proofs::ClauseStatus::left_with_push))]
     fn with_unset(self, literal: i32) -> ClauseStatus
         ensures { (ls : List ℤ) → self ≡ left_with ls → result ≡ left_with (ls ++ literal ∷ []) }
@@ -46,7 +48,6 @@ fn truth(trail: &[Slot], literal: i32) -> Option<bool>
         .map(|value| value == (literal > 0))
 }
 
-/// How the clause stands under the trail.
 #[tactic(auto, using(crate::proofs::ClauseStatus::status_steps))]
 pub(crate) fn status_of(clause: &[i32], trail: &[Slot]) -> ClauseStatus
     requires { All (λ l. bad_literal (length trail.now) l ≡ false) clause.now }

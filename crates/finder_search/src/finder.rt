@@ -6,14 +6,18 @@ ghost use Rattle.finders.specs.Questions.{Asked};
 ghost use Rattle.finders.specs.Refused.{variables_refused, ask_refused};
 ghost use Rattle.clause_tables.specs.Room.{room};
 ghost use Rattle.clause_tables.specs.Table.{meaning_of, made_in};
+ghost use Rattle.finder_search.specs.Question.{answer_to};
 
-use crate::question::find;
+use crate::question::Question;
+use crate::reasons::Reason;
 use crate::trail::Slot;
 use clause_tables::{ClauseRecord, Room, Tables};
 use finders::{Answer, Finder};
+use terms::limits::MOST_VARIABLES;
 use terms::{Refusal, SoftSet};
 
-/// Finds a model by splitting on one variable after another, for up to 256 variables.
+/// Finds a model by DPLL (Davis, Logemann and Loveland 1962) with conflict-directed backjumping (Prosser 1993), for up to
+/// `MOST_VARIABLES` variables.
 #[derive(Debug, Drop)]
 pub struct Search<'a> {
     tables: Tables<'a>,
@@ -23,20 +27,20 @@ pub struct Search<'a> {
 impl<'a> Search<'a> {
     ghost use Rattle.finder_search.specs.Finder.{finder_meaning};
 
-    /// Refuses more than 256 variables.
+    /// Refuses more than `MOST_VARIABLES` variables.
     pub fn check(n: usize) -> Result<(), Refusal>
-        ensures { result_err result ≡ variables_refused 256 n }
+        ensures { result_err result ≡ variables_refused MOST_VARIABLES n }
     {
-        Room::check(n, 256)
+        Room::check(n, MOST_VARIABLES)
     }
 
     /// A finder that admits every assignment. The lengths of the tables are its places.
-    /// With more than 256 variables it has no variables and no places.
+    /// With more than `MOST_VARIABLES` variables it has no variables and no places.
     pub fn new(records: &'a mut [ClauseRecord], literals: &'a mut [i32], n: usize) -> Self
-        ensures { finder_meaning result ≡ made_in (room 256 n) records.old literals.old }
+        ensures { finder_meaning result ≡ made_in (room MOST_VARIABLES n) (length records.old) (length literals.old) }
     {
         Search {
-            tables: Tables::new(records, literals, n, 256),
+            tables: Tables::new(records, literals, n, MOST_VARIABLES),
         }
     }
 
@@ -46,8 +50,19 @@ impl<'a> Search<'a> {
         ensures { Asked (finder_meaning self.now) set buffer.old (Ok result) buffer.new }
     {
         let n = self.tables.variables();
-        let mut trail = [Slot::Unset; 256];
-        find(&self.tables, set, &mut trail[..n], &mut buffer[..n])
+        let mut trail = [Slot::Unset; MOST_VARIABLES];
+        let question = Question::new(&self.tables, set);
+        answer(question.solve(&mut trail[..n], &mut buffer[..n]))
+    }
+}
+
+/// What a finder answers: the soft clauses of the reason are the core.
+fn answer(outcome: Result<(), Reason>) -> Answer
+    ensures { result ≡ answer_to outcome }
+{
+    match outcome {
+        Ok(()) => Answer::Model,
+        Err(reason) => Answer::Core(reason.softs),
     }
 }
 

@@ -1,8 +1,9 @@
-//! The search: a finder for up to 256 variables, on clause tables that the caller lends.
+//! The search: a finder that solves as a DPLL solver does, on clause tables that the caller lends.
 #![tactic(auto)]
 
 mod clause_status;
 mod finder;
+mod literals;
 mod occurrences;
 mod order;
 mod propagation;

@@ -1,41 +1,44 @@
-//! In which clauses a literal stands.
+//! In which clauses a literal occurs.
 ghost use Rattle.std.specs.Prelude.{◌≡◌, ℤ, ◌+◌, ◌<◌, ◌≤◌, false, [], length, All};
 ghost use Rattle.std.specs.Iterator.{YieldsFirst, item_count};
 ghost use Rattle.terms.specs.Clauses.{bad_literal};
+ghost use Rattle.terms.specs.declared.limits.TheConstants.{TABLE_PLACES};
 ghost use Rattle.clause_tables.specs.Entries.{IsProper, as_entry};
-ghost use Rattle.finder_search.specs.Trail.{row};
+ghost use Rattle.finder_search.specs.Literals.{row};
 
-use crate::trail::place_of;
+use crate::literals::{LITERAL_ROWS, row_of};
 use clause_tables::{Clause, Tables};
 use std::marker::Model;
 use terms::SoftSet;
+use terms::limits::{MOST_VARIABLES, TABLE_PLACES};
 
-/// The number of a clause in which a literal stands, and the head of the chain of the older ones.
+/// The number of a clause in which a literal occurs, and the head of the chain of the older ones.
 #[derive(Clone, Copy, Debug)]
 pub(crate) struct Node {
     number: u16,
     next: u16,
 }
 
-/// For each literal the numbers of the clauses in which it stands, as a chain of nodes.
+/// For each literal the numbers of the clauses in which it occurs, as a chain of nodes.
 #[derive(Debug, Drop)]
 pub(crate) struct Occurrences {
     /// The head of each literal's chain: 0 where it is empty, else the place of its newest node, from 1.
-    heads: [u16; 512],
+    heads: [u16; LITERAL_ROWS],
     /// The nodes in use are the first ones, each newer than those before it.
-    nodes: [Node; 32768],
+    nodes: [Node; TABLE_PLACES],
     used: usize,
-    ghost roomy: { used ≤ 32768 },
+    ghost roomy: { used ≤ TABLE_PLACES },
     ghost rooted: { All (λ head. head ≤ used) heads },
 }
 
 impl Occurrences {
     ghost use Rattle.finder_search.specs.Occurrences.{AddsClause, Indexed, PushesNumber, numbers_with};
+    ghost use Rattle.finder_search.specs.Query.{asking};
 
     /// The occurrences in the clauses that a model for the set has to satisfy.
     #[tactic(auto, using(crate::proofs::Occurring::coming_here, crate::proofs::Occurring::all_told))]
     pub(crate) fn of(tables: &Tables<'_>, set: SoftSet) -> Occurrences
-        ensures { Indexed tables.now set result }
+        ensures { Indexed (asking tables.now set) result }
     {
         let mut occurrences = Occurrences::none();
         let mut number = 0;
@@ -46,14 +49,13 @@ impl Occurrences {
         occurrences
     }
 
-    /// No literal stands in a clause.
     fn none() -> Occurrences
         ensures used { result.used ≡ 0 }
         ensures none { (l : ℤ) → numbers_with result l ≡ [] }
     {
         Occurrences {
-            heads: [0; 512],
-            nodes: [Node { number: 0, next: 0 }; 32768],
+            heads: [0; LITERAL_ROWS],
+            nodes: [Node { number: 0, next: 0 }; TABLE_PLACES],
             used: 0,
         }
     }
@@ -61,8 +63,8 @@ impl Occurrences {
     /// Adds the literals of the clause with this number, where a model for the set has to satisfy it.
     #[tactic(auto, using(crate::proofs::Occurring::literal_added))]
     fn add(&mut self, clause: Clause<'_>, set: SoftSet, number: u16)
-        requires proper { IsProper 256 (as_entry clause) }
-        requires room { self.old.used + length clause.literals.now ≤ 32768 }
+        requires proper { IsProper MOST_VARIABLES (as_entry clause) }
+        requires room { self.old.used + length clause.literals.now ≤ TABLE_PLACES }
         ensures used { self.new.used ≤ self.old.used + length clause.entry.literals.now }
         ensures added { AddsClause self.old self.new set number (as_entry clause.entry) }
     {
@@ -77,8 +79,8 @@ impl Occurrences {
     /// Puts the number in front of the literal's chain.
     #[tactic(auto, using(crate::proofs::Occurring::pushed), unfolding(crate::specs::Occurrences::numbers_with))]
     fn push(&mut self, literal: i32, number: u16)
-        requires proper { bad_literal 256 literal ≡ false }
-        requires room { self.old.used < 32768 }
+        requires proper { bad_literal MOST_VARIABLES literal ≡ false }
+        requires room { self.old.used < TABLE_PLACES }
         ensures used { self.new.used ≡ self.old.used + 1 }
         ensures pushed { PushesNumber self.old self.new literal number }
     {
@@ -89,10 +91,10 @@ impl Occurrences {
         self.heads[row] = self.used as u16;
     }
 
-    /// The numbers of the clauses in which the literal stands.
+    /// The numbers of the clauses in which the literal occurs.
     #[tactic(auto, unfolding(crate::specs::Occurrences::numbers_with))]
     pub(crate) fn with(&self, literal: i32) -> Numbers<'_>
-        requires { bad_literal 256 literal ≡ false }
+        requires { bad_literal MOST_VARIABLES literal ≡ false }
         ensures { result ≡ numbers_with self.now literal }
     {
         Numbers {
@@ -132,13 +134,4 @@ impl<'a> Iterator for Numbers<'a> {
         self.head = node.next;
         Some(node.number)
     }
-}
-
-/// The row of a literal: a variable's two literals have neighbouring rows, the positive one first.
-pub(crate) fn row_of(literal: i32) -> usize
-    requires { bad_literal 256 literal ≡ false }
-    ensures row { result ≡ row literal }
-    ensures within { result < 512 }
-{
-    2 * place_of(literal) + usize::from(literal < 0)
 }

@@ -1,11 +1,15 @@
-//! In which order the clauses are visited at for the next literal. It bears on the speed of a search, and on nothing else.
+//! In which order the clauses are looked through for the next literal. It bears on the speed of a search, and on nothing else.
 ghost use Rattle.std.specs.Prelude.{◌≤◌, length};
 
 use clause_tables::{Clause, Tables};
+use terms::limits::TABLE_PLACES;
+
+/// The literals of a short clause, at most: tuned on bench, no promise.
+const SHORT_LENGTH: usize = 4;
 
 /// Fills the order with the numbers of the clauses, those of short clauses first, and tells how many there are.
-pub(crate) fn short_first(tables: &Tables<'_>, order: &mut [u16; 32768]) -> usize
-    ensures { result ≤ 32768 }
+pub(crate) fn short_first(tables: &Tables<'_>, order: &mut [u16; TABLE_PLACES]) -> usize
+    ensures { result ≤ TABLE_PLACES }
 {
     let count = tables.clause_count().min(order.len());
     let mut short = 0;
@@ -19,7 +23,7 @@ pub(crate) fn short_first(tables: &Tables<'_>, order: &mut [u16; 32768]) -> usiz
     count
 }
 
-/// Whether the clause is among those that are always visited at.
+/// Whether the clause is among those that are always scored.
 pub(crate) fn is_short(clause: Clause<'_>) -> bool {
-    clause.literals.len() <= 4
+    clause.literals.len() <= SHORT_LENGTH
 }

@@ -1,16 +1,19 @@
-//! What a implied value rests on, or a conflict.
+//! Why a value is implied, or why a clause is in conflict.
 ghost use Rattle.std.specs.Prelude.{◌≡◌, ◌==◌, ℕ, ◌<◌, ◌≤◌, false, not, ◌&&◌, ◌||◌, All, length};
 ghost use Rattle.terms.specs.Clauses.{bad_literal};
 ghost use Rattle.terms.specs.Masks.{member};
+ghost use Rattle.clause_tables.specs.Entries.{as_entry};
 ghost use Rattle.finder_search.specs.VariableSets.{has};
-ghost use Rattle.finder_search.specs.Reasons.{is_number, clause_decisions, clause_softs};
+ghost use Rattle.finder_search.specs.Reasons.{IsJoined, IsReason, is_number};
 
-use crate::trail::{Slot, place_of};
+use crate::literals::place_of;
+use crate::trail::Slot;
 use crate::variable_sets::VariableSet;
 use clause_tables::{Clause, ClauseKind};
 use terms::SoftSet;
+use terms::limits::MOST_VARIABLES;
 
-/// Choices of the search, by their variables, and soft clauses.
+/// Decisions of the search, by their variables, and soft clauses.
 #[derive(Clone, Copy, PartialEq, Eq, Debug)]
 pub(crate) struct Reason {
     pub(crate) decisions: VariableSet,
@@ -18,7 +21,6 @@ pub(crate) struct Reason {
 }
 
 impl Reason {
-    /// No decision and no soft clause.
     pub(crate) fn none() -> Reason
         ensures decisions { (v : ℕ) → has result.decisions v ≡ false }
         ensures softs { (k : ℕ) → member result.softs k ≡ false }
@@ -31,7 +33,7 @@ impl Reason {
 
     /// The decision of this variable alone.
     pub(crate) fn decision(place: usize) -> Reason
-        requires { place < 256 }
+        requires { place < MOST_VARIABLES }
         ensures decisions { (v : ℕ) → has result.decisions v ≡ (place == v) }
         ensures softs { (k : ℕ) → member result.softs k ≡ false }
     {
@@ -58,10 +60,9 @@ impl Reason {
     /// The clause, and what makes its literals false.
     #[tactic(auto, using(std::proofs::lemmas::List::Folds::list_any_more))]
     pub(crate) fn of(clause: Clause<'_>, trail: &[Slot]) -> Reason
-        requires few { length trail.now ≤ 256 }
+        requires few { length trail.now ≤ MOST_VARIABLES }
         requires proper { All (λ l. bad_literal (length trail.now) l ≡ false) clause.literals.now }
-        ensures decisions { (v : ℕ) → has result.decisions v ≡ clause_decisions trail.now clause.entry.literals.now v }
-        ensures softs { (k : ℕ) → member result.softs k ≡ clause_softs trail.now clause.entry.kind clause.entry.literals.now k }
+        ensures { IsReason trail.now (as_entry clause.entry) result }
     {
         let mut reason = Reason::of_kind(clause.kind);
         for &literal in clause.literals {
@@ -71,7 +72,6 @@ impl Reason {
         reason
     }
 
-    /// Both together.
     fn union(self, other: Reason) -> Reason
         ensures decisions { (v : ℕ) → has result.decisions v ≡ (has self.decisions v || has other.decisions v) }
         ensures softs { (k : ℕ) → member result.softs k ≡ (member self.softs k || member other.softs k) }
@@ -84,9 +84,8 @@ impl Reason {
 
     /// Both together, but for the decision of this variable.
     pub(crate) fn joined(self, other: Reason, place: usize) -> Reason
-        requires { place < 256 }
-        ensures decisions { (v : ℕ) → has result.decisions v ≡ ((has self.decisions v || has other.decisions v) && not (place == v)) }
-        ensures softs { (k : ℕ) → member result.softs k ≡ (member self.softs k || member other.softs k) }
+        requires { place < MOST_VARIABLES }
+        ensures { IsJoined self other place result }
     {
         let both = self.union(other);
         Reason {

@@ -1,29 +1,52 @@
-//! Which literal to try next.
-ghost use Rattle.std.specs.Prelude.{◌≡◌, ◌+◌, ◌<◌, ◌≤◌, true, false, All, length};
+//! Which literal to try next. Scores are after Jeroslow and Wang (1990): an open clause counts exponentially more the fewer of
+//! its literals have no value. Those of a variable's two literals are multiplied.
+ghost use Rattle.std.specs.Prelude.{◌≡◌, ◌+◌, ◌<◌, ◌≤◌, false, All, length};
 ghost use Rattle.terms.specs.Clauses.{bad_literal, variable};
-ghost use Rattle.finder_search.specs.ClauseStatus.{is_unassigned};
+ghost use Rattle.finder_search.specs.Trail.{Unassigned};
 
-use crate::occurrences::row_of;
-use crate::trail::{Slot, place_of};
+use crate::literals::{LITERAL_ROWS, place_of, row_of};
+use crate::trail::Slot;
+use terms::limits::MOST_VARIABLES;
+
+/// After so many clauses long ones more would hardly change which literal is best: tuned on bench, no promise.
+const ENOUGH_CLAUSES: u16 = 64;
+
+/// The weight of an open clause is 2 to this power, less a step for each literal without a value: tuned on bench, no promise.
+const TOP_POWER: usize = 20;
+
+/// How much a literal without a value takes from the power: tuned on bench, no promise.
+const STEP: usize = 2;
+
+/// The literals without a value that are counted for that, at most: tuned on bench, no promise.
+const MOST_STEPS: usize = 9;
+
+/// By what the weight is divided where no literal has a value, in a binary clause: tuned on bench, no promise.
+const UNTOUCHED_BINARY: u32 = 64;
+
+/// By what it is divided there in a longer clause: tuned on bench, no promise.
+const UNTOUCHED_LONGER: u32 = 2;
+
+/// A score is far more than another from so many times that on: tuned on bench, no promise.
+const FAR_MORE: u32 = 2;
 
 /// How much each literal would do for the open clauses, by its row.
 #[derive(Clone, Copy, Debug)]
 pub(crate) struct Scores {
-    rows: [u32; 512],
+    rows: [u32; LITERAL_ROWS],
     clauses: u16,
 }
 
 impl Scores {
     pub(crate) fn new() -> Scores {
         Scores {
-            rows: [0; 512],
+            rows: [0; LITERAL_ROWS],
             clauses: 0,
         }
     }
 
     /// Counts an open clause for each of its literals.
     pub(crate) fn add(&mut self, clause: &[i32], trail: &[Slot])
-        requires few { length trail.now ≤ 256 }
+        requires few { length trail.now ≤ MOST_VARIABLES }
         requires proper { All (λ l. bad_literal (length trail.now) l ≡ false) clause.now }
     {
         let left = clause
@@ -38,18 +61,15 @@ impl Scores {
         }
     }
 
-    /// Whether so many clauses were counted that long ones more would hardly change the decision.
     pub(crate) fn are_enough(&self) -> bool {
-        self.clauses >= 64
+        self.clauses >= ENOUGH_CLAUSES
     }
 
     /// The literal to try, of a variable without a value. The fallback shows that there is one.
     pub(crate) fn best(&self, trail: &[Slot], fallback: i32) -> i32
-        requires few { length trail.now ≤ 256 }
-        requires proper { bad_literal (length trail.now) fallback ≡ false }
-        requires unset { is_unassigned trail.now fallback ≡ true }
-        ensures proper { bad_literal (length trail.now) result ≡ false }
-        ensures unset { is_unassigned trail.now result ≡ true }
+        requires few { length trail.now ≤ MOST_VARIABLES }
+        requires unassigned { Unassigned trail.now fallback }
+        ensures { Unassigned trail.now result }
     {
         let mut best = fallback;
         let mut most = 0_u64;
@@ -67,7 +87,7 @@ impl Scores {
 
     /// How much it would do to split on the variable.
     fn value(&self, place: usize) -> u64
-        requires { place < 256 }
+        requires { place < MOST_VARIABLES }
     {
         let (positive, negative) = self.of_variable(place);
         (u64::from(positive) + 1).saturating_mul(u64::from(negative) + 1)
@@ -75,20 +95,20 @@ impl Scores {
 
     /// The scores of the variable's two literals.
     fn of_variable(&self, place: usize) -> (u32, u32)
-        requires { place < 256 }
+        requires { place < MOST_VARIABLES }
     {
         (self.rows[2 * place], self.rows[2 * place + 1])
     }
 
-    /// The literal that does more; but the positive one where that is wanted and would imply far more.
+    /// The literal that does more; but the positive one where it does something and implies far more.
     fn literal(&self, place: usize) -> i32
-        requires { place < 256 }
+        requires { place < MOST_VARIABLES }
         ensures { variable result ≡ place + 1 }
     {
         let literal = place as i32 + 1;
         let (positive, negative) = self.of_variable(place);
-        let draws_more = positive > 0 && positive < negative / 2;
-        if positive >= negative || draws_more {
+        let implies_more = positive > 0 && positive < negative / FAR_MORE;
+        if positive >= negative || implies_more {
             literal
         } else {
             -literal
@@ -96,15 +116,14 @@ impl Scores {
     }
 }
 
-/// How much an open clause counts: the more, the fewer of its literals have no value. One of which none has a value counts
-/// less, since no trial has touched it, and far less where it has two literals.
+/// How much an open clause counts for each of its literals. One without a value in any says nothing of the decisions so far.
 fn weight(left: usize, size: usize) -> u32 {
-    let touched = 1_u32 << (20 - 2 * left.min(9));
+    let touched = 1_u32 << (TOP_POWER - STEP * left.min(MOST_STEPS));
     if left < size {
         touched
     } else if left > 2 {
-        touched / 2
+        touched / UNTOUCHED_LONGER
     } else {
-        touched / 64
+        touched / UNTOUCHED_BINARY
     }
 }

@@ -1,19 +1,21 @@
-//! Deciding one truth of a variable and then the other.
-ghost use Rattle.std.specs.Prelude.{◌≡◌, ◌≤◌, false, not, IfSome, Some, option_map, length, replicate, slice_set};
-ghost use Rattle.terms.specs.Clauses.{bad_literal};
+//! DPLL: deciding one truth of a variable and then the other.
+ghost use Rattle.std.specs.Prelude.{◌≡◌, ◌≤◌, IfSome, option_map, length, replicate};
 ghost use Rattle.clause_tables.specs.Entries.{IsProper, as_entry};
-ghost use Rattle.finder_search.specs.Occurrences.{occurs};
-ghost use Rattle.finder_search.specs.Trail.{negated, place, positive};
-ghost use Rattle.finder_search.specs.Hunts.{NextIn, QuietIn, Ready, SolvedIn, SoundIn};
-ghost use Rattle.finder_search.specs.Searching.{Extends, OpenIn, Unassigned, decisions, none_pending};
+ghost use Rattle.finder_search.specs.Literals.{negated};
+ghost use Rattle.finder_search.specs.Propagation.{Quiet, Sound, no_clause};
+ghost use Rattle.finder_search.specs.Question.{query};
+ghost use Rattle.finder_search.specs.Splitting.{JustDecided, Next, OpenIn, Ready, Solved, with_decision};
+ghost use Rattle.finder_search.specs.Trail.{Extends, Unassigned, decisions};
 
 use crate::clause_status::{ClauseStatus, status_of};
+use crate::literals::{opposite, place_of};
 use crate::order::{is_short, short_first};
 use crate::question::Question;
 use crate::reasons::Reason;
 use crate::scores::Scores;
-use crate::trail::{Slot, Trial, decide, opposite, place_of, write_model};
+use crate::trail::{Slot, Trial, decide, write_model};
 use clause_tables::Clause;
+use terms::limits::TABLE_PLACES;
 
 /// A literal to try, and how many clauses at the front of the order are met.
 #[derive(Clone, Copy, Debug)]
@@ -27,10 +29,10 @@ impl Question<'_> {
     pub(crate) fn solve(&self, trail: &mut [Slot], buffer: &mut [u8]) -> Result<(), Reason>
         requires unset { trail.old ≡ replicate self.now.tables.now.n Slot.Unset }
         requires long { length buffer.old ≡ self.now.tables.now.n }
-        ensures { SolvedIn self.now (decisions trail.old) buffer.old result buffer.new }
+        ensures { Solved (query self.now) (decisions trail.old) buffer.old result buffer.new }
     {
         self.propagate_at_root(trail)?;
-        let mut order = [0; 32768];
+        let mut order = [0; TABLE_PLACES];
         let count = short_first(self.tables, &mut order);
         self.try_next(trail, buffer, 0, &mut order[..count])
     }
@@ -44,9 +46,9 @@ impl Question<'_> {
         level: u16,
         order: &mut [u16],
     ) -> Result<(), Reason>
-        requires { Ready self.now none_pending level trail.old buffer.old }
+        requires { Ready (query self.now) level trail.old buffer.old }
         ensures same { trail.new ≡ trail.old }
-        ensures answer { SolvedIn self.now (decisions trail.old) buffer.old result buffer.new }
+        ensures answer { Solved (query self.now) (decisions trail.old) buffer.old result buffer.new }
     {
         match self.next_literal(trail, order) {
             Some(next) => self.split(next.literal, trail, buffer, level, &mut order[next.met..]),
@@ -67,10 +69,10 @@ impl Question<'_> {
         level: u16,
         order: &mut [u16],
     ) -> Result<(), Reason>
-        requires ready { Ready self.now none_pending level trail.old buffer.old }
+        requires ready { Ready (query self.now) level trail.old buffer.old }
         requires unassigned { Unassigned trail.old literal }
         ensures same { trail.new ≡ trail.old }
-        ensures answer { SolvedIn self.now (decisions trail.old) buffer.old result buffer.new }
+        ensures answer { Solved (query self.now) (decisions trail.old) buffer.old result buffer.new }
     {
         let place = place_of(literal);
         let Err(first) = self.try_literal(literal, trail, buffer, level, order) else {
@@ -90,7 +92,7 @@ impl Question<'_> {
 
     /// Searches with the literal false.
     #[cycle(trying)]
-    #[tactic(auto, using(crate::proofs::Literals::place_negated, crate::proofs::Literals::positive_negated, crate::proofs::Literals::bad_negated))]
+    #[tactic(auto, using(crate::proofs::LiteralLaws::place_negated, crate::proofs::LiteralLaws::positive_negated, crate::proofs::LiteralLaws::bad_negated))]
     fn try_opposite(
         &self,
         literal: i32,
@@ -99,10 +101,10 @@ impl Question<'_> {
         level: u16,
         order: &mut [u16],
     ) -> Result<(), Reason>
-        requires ready { Ready self.now none_pending level trail.old buffer.old }
+        requires ready { Ready (query self.now) level trail.old buffer.old }
         requires unassigned { Unassigned trail.old literal }
         ensures same { trail.new ≡ trail.old }
-        ensures answer { SolvedIn self.now (slice_set (decisions trail.old) (place literal) (Some (not (positive literal)))) buffer.old result buffer.new }
+        ensures answer { Solved (query self.now) (with_decision trail.old (negated literal)) buffer.old result buffer.new }
     {
         self.try_literal(opposite(literal), trail, buffer, level, order)
     }
@@ -117,10 +119,10 @@ impl Question<'_> {
         level: u16,
         order: &mut [u16],
     ) -> Result<(), Reason>
-        requires ready { Ready self.now none_pending level trail.old buffer.old }
+        requires ready { Ready (query self.now) level trail.old buffer.old }
         requires unassigned { Unassigned trail.old literal }
         ensures same { trail.new ≡ trail.old }
-        ensures answer { SolvedIn self.now (slice_set (decisions trail.old) (place literal) (Some (positive literal))) buffer.old result buffer.new }
+        ensures answer { Solved (query self.now) (with_decision trail.old literal) buffer.old result buffer.new }
     {
         let deeper = level + 1;
         let trial = Trial { trail, level };
@@ -138,10 +140,9 @@ impl Question<'_> {
         level: u16,
         order: &mut [u16],
     ) -> Result<(), Reason>
-        requires proper { bad_literal self.now.tables.now.n literal ≡ false }
-        requires ready { Ready self.now (occurs self.now.set (negated literal) self.now.tables.now.entries) level trail.old buffer.old }
+        requires { JustDecided (query self.now) literal level trail.old buffer.old }
         ensures extends { Extends level trail.old trail.new }
-        ensures answer { SolvedIn self.now (decisions trail.old) buffer.old result buffer.new }
+        ensures answer { Solved (query self.now) (decisions trail.old) buffer.old result buffer.new }
     {
         self.propagate(literal, trail, level)?;
         self.try_next(trail, buffer, level, order)
@@ -149,9 +150,9 @@ impl Question<'_> {
 
     /// What to try next: nothing, where the values are a model.
     fn next_literal(&self, trail: &[Slot], order: &mut [u16]) -> Option<Pick>
-        requires sound { SoundIn self.now trail.now }
-        requires quiet { QuietIn self.now none_pending trail.now }
-        ensures literal { NextIn self.now trail.now (option_map (λ n. n.literal) result) }
+        requires sound { Sound (query self.now) trail.now }
+        requires quiet { Quiet (query self.now) no_clause trail.now }
+        ensures literal { Next (query self.now) trail.now (option_map (λ n. n.literal) result) }
         ensures met { IfSome result (λ n. n.met ≤ length order.new) }
     {
         if let Some(pick) = self.best_literal(trail, order) {
@@ -192,9 +193,9 @@ impl Question<'_> {
 
     /// A literal without a value, of any clause that is wanted and has no true one.
     fn any_literal(&self, trail: &[Slot]) -> Option<i32>
-        requires sound { SoundIn self.now trail.now }
-        requires quiet { QuietIn self.now none_pending trail.now }
-        ensures { NextIn self.now trail.now result }
+        requires sound { Sound (query self.now) trail.now }
+        requires quiet { Quiet (query self.now) no_clause trail.now }
+        ensures { Next (query self.now) trail.now result }
     {
         for clause in self.tables.clauses() {
             if let Some(literal) = self.open_literal(clause, trail) {

@@ -1,21 +1,21 @@
-//! How the variables stand while a search is on.
+//! How each variable stands while a search is on.
 ghost use Rattle.std.specs.Prelude.{◌≡◌, ℕ, ◌<◌, false, not, slice_set, length, map};
-ghost use Rattle.terms.specs.Clauses.{bad_literal, variable};
 ghost use Rattle.terms.specs.Masks.{member};
-ghost use Rattle.finder_search.specs.Searching.{Unassigned};
+ghost use Rattle.finder_search.specs.Literals.{place, positive};
+ghost use Rattle.finder_search.specs.Trail.{Unassigned, byte_of, is_deeper, is_unset, rests_on_decision, rests_on_soft, undone, value_of};
 ghost use Rattle.finder_search.specs.VariableSets.{has};
-ghost use Rattle.finder_search.specs.Trail.{is_deeper, is_unset, negated, place, positive, value_of, rests_on_decision, rests_on_soft, byte_of, undone};
 
+use crate::literals::place_of;
 use crate::reasons::Reason;
+use terms::limits::MOST_VARIABLES;
 
-/// How a variable stands.
+/// How a variable stands. A level is how many decisions there were, one within another.
 #[derive(Clone, Copy, PartialEq, Eq, Debug)]
 pub(crate) enum Slot {
-    /// It has no value.
     Unset,
     /// The search tries this value, at this level.
     Decided(bool, u16),
-    /// Each model that the reason allows gives it this value; implied at this level.
+    /// Each model that the reason allows gives it this value; it was implied at this level.
     Implied(bool, u16, Reason),
 }
 
@@ -38,7 +38,7 @@ impl Slot {
     }
 
     /// The value as a byte of an assignment.
-    fn byte_of(self) -> u8
+    fn byte(self) -> u8
         ensures { result ≡ byte_of self }
     {
         u8::from(self.value() == Some(true))
@@ -46,7 +46,7 @@ impl Slot {
 
     /// What it rests on that the variable, at this place, has its value.
     pub(crate) fn reason(self, place: usize) -> Reason
-        requires { place < 256 }
+        requires { place < MOST_VARIABLES }
         ensures decisions { (v : ℕ) → has result.decisions v ≡ rests_on_decision self place v }
         ensures softs { (k : ℕ) → member result.softs k ≡ rests_on_soft self k }
     {
@@ -57,7 +57,7 @@ impl Slot {
         }
     }
 
-    /// Unsets the variable, if it was set deeper than this.
+    /// Unsets the variable, if it was set deeper than this level.
     fn undo(&mut self, level: u16)
         ensures { self.new ≡ undone level self.old }
     {
@@ -66,7 +66,6 @@ impl Slot {
         }
     }
 
-    /// Whether the variable was set deeper than this.
     fn is_deeper(&self, level: u16) -> bool
         ensures { result ≡ is_deeper level self.now }
     {
@@ -78,23 +77,7 @@ impl Slot {
     }
 }
 
-/// The place of the literal's variable.
-pub(crate) fn place_of(literal: i32) -> usize
-    requires { 0 < variable literal }
-    ensures { result ≡ place literal }
-{
-    (literal.unsigned_abs() - 1) as usize
-}
-
-/// The literal of the same variable that is true where this one is false.
-pub(crate) fn opposite(literal: i32) -> i32
-    requires { bad_literal 256 literal ≡ false }
-    ensures { result ≡ negated literal }
-{
-    -literal
-}
-
-/// Makes the literal true by the search's decision.
+/// Makes the literal true by decision.
 pub(crate) fn decide(trail: &mut [Slot], literal: i32, level: u16)
     requires { Unassigned trail.old literal }
     ensures { trail.new ≡ slice_set trail.old (place literal) (Slot.Decided (positive literal) level) }
@@ -135,6 +118,6 @@ pub(crate) fn write_model(trail: &[Slot], buffer: &mut [u8])
     ensures { buffer.new ≡ map byte_of trail.now }
 {
     for (place, slot) in trail.iter().enumerate() {
-        buffer[place] = slot.byte_of();
+        buffer[place] = slot.byte();
     }
 }

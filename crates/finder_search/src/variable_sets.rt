@@ -1,15 +1,19 @@
-//! VariableSets of variables.
+//! Sets of variables.
 #![tactic(auto, unfolding(crate::specs::VariableSets::has))]
 
 ghost use Rattle.std.specs.Prelude.{◌≡◌, ◌==◌, ℕ, ◌<◌, false, not, ◌&&◌, ◌||◌};
 ghost use Rattle.finder_search.specs.VariableSets.{has};
 
 use terms::SoftSet;
+use terms::limits::{MOST_VARIABLES, SOFT_PLACES};
 
-/// A set of variables by their places, which are below 256: four sets of 64 places each.
+/// The parts of a set of variables. Each is a `SoftSet`, and has as many places as one.
+const PARTS: usize = MOST_VARIABLES / SOFT_PLACES;
+
+/// A set of variables by their places.
 #[derive(Clone, Copy, PartialEq, Eq, Debug)]
 pub(crate) struct VariableSet {
-    parts: [SoftSet; 4],
+    parts: [SoftSet; PARTS],
 }
 
 impl VariableSet {
@@ -17,32 +21,32 @@ impl VariableSet {
         ensures { (v : ℕ) → has result v ≡ false }
     {
         VariableSet {
-            parts: [SoftSet::empty(); 4],
+            parts: [SoftSet::empty(); PARTS],
         }
     }
 
     pub(crate) fn has(self, place: usize) -> bool
-        requires { place < 256 }
+        requires { place < MOST_VARIABLES }
         ensures { result ≡ has self place }
     {
-        self.parts[place / 64].has(place % 64)
+        self.parts[place / SOFT_PLACES].has(place % SOFT_PLACES)
     }
 
     pub(crate) fn insert(self, place: usize) -> VariableSet
-        requires { place < 256 }
+        requires { place < MOST_VARIABLES }
         ensures { (v : ℕ) → has result v ≡ (has self v || place == v) }
     {
         let mut parts = self.parts;
-        parts[place / 64] = parts[place / 64].insert(place % 64);
+        parts[place / SOFT_PLACES] = parts[place / SOFT_PLACES].insert(place % SOFT_PLACES);
         VariableSet { parts }
     }
 
     pub(crate) fn remove(self, place: usize) -> VariableSet
-        requires { place < 256 }
+        requires { place < MOST_VARIABLES }
         ensures { (v : ℕ) → has result v ≡ (has self v && not (place == v)) }
     {
         let mut parts = self.parts;
-        parts[place / 64] = parts[place / 64].remove(place % 64);
+        parts[place / SOFT_PLACES] = parts[place / SOFT_PLACES].remove(place % SOFT_PLACES);
         VariableSet { parts }
     }
 

@@ -1,8 +1,9 @@
 use Rattle.std.proofs.Common.{◌*◌, ◌+◌}
-use Rattle.finder_search.specs.Occurrences.{has_number, occurs}
-use Rattle.finder_search.specs.Trail.{negated, unset}
-use Rattle.finder_search.specs.Searching.{Extends, Sound}
+use Rattle.finder_search.specs.Occurrences.{has_number}
+use Rattle.finder_search.specs.Propagation.{Sound, losing}
+use Rattle.finder_search.specs.Trail.{unset, Extends}
 use Rattle.finder_search.proofs.Visiting.{Visited}
+use Rattle.finder_search.specs.Question.{query}
 use Rattle.finder_search.proofs.question.Question.+propagating.Given as goal
 
 -- the variables without a value become fewer
@@ -16,5 +17,5 @@ decreases-visit l = 2 * unset l.trail.now
 abbrev pub invariant-propagate-loop-number : goal.invariant-propagate-loop-number
 invariant-propagate-loop-number l =
     Extends l.level l.fn.trail l.trail
-    × Sound l.self.tables.now l.self.set l.trail
-    × Visited l.self.tables.now l.self.set (occurs l.self.set (negated l.fn.literal) l.self.tables.now.entries) (has_number l.number-iterator) l.fn.trail l.trail
+    × Sound (query l.self) l.trail
+    × Visited (query l.self) (losing (query l.self) l.fn.literal) (has_number l.number-iterator) l.fn.trail l.trail

@@ -1,12 +1,15 @@
-use Rattle.std.proofs.Common.{◌≡◌, false, not, ◌&&◌, ◌||◌, eqb, ap, ◌∙◌, subst, sym, refl, arith, rules, w32}
+use Rattle.std.proofs.Common.{◌≡◌, false, not, ◌∙◌, subst, sym, refl, arith, rules, w32}
 use Rattle.std.proofs.lemmas.Int.{to_z-of_z}
-use Rattle.finder_search.specs.Trail.{place, positive, negated}
-use Rattle.terms.specs.Clauses.{bad_literal}
-use Rattle.finder_search.specs.Occurrences.{occurs}
+use Rattle.finder_search.specs.Literals.{place, positive}
+use Rattle.finder_search.specs.Propagation.{Quiet, no_clause, losing}
+use Rattle.finder_search.specs.Splitting.{Solved}
+use Rattle.finder_search.specs.Trail.{decisions}
 use Rattle.finder_search.specs.VariableSets.{has}
-use Rattle.finder_search.specs.Searching.{decisions, Quiet, Solved, none_pending}
+use Rattle.terms.specs.Clauses.{bad_literal}
 use Rattle.finder_search.proofs.Branching.{excludes_unused, excludes_both}
-use Rattle.finder_search.proofs.Deciding.{unassigned_room, unassigned_place, decided_sound, decided_decisions, decided_fewer, decided_within, decided_quiet, all_restored}
+use Rattle.finder_search.proofs.Deciding.{opposite_decision, unassigned_room, unassigned_place, decided_sound, decided_decisions, decided_fewer, decided_within, decided_quiet, all_restored}
+use Rattle.finder_search.specs.Question.{query}
+use Rattle.finder_search.specs.Reasons.{IsJoined}
 use Rattle.finder_search.proofs.question.Question.+trying.Goals as goal
 
 pub try_literal-overflow_add-deeper : goal.try_literal-overflow_add-deeper
@@ -14,20 +17,19 @@ try_literal-overflow_add-deeper t c = let room = unassigned_room c.args.trail.no
 
 pub try_literal-propagate_decision-requires : goal.try_literal-propagate_decision-requires
 try_literal-propagate_decision-requires t c =
-    let table = c.args.self.now.tables.now in
-    let set = c.args.self.now.set in
+    let q = query c.args.self.now in
     let decided = simp (to_z-of_z, c.ranges.literal) at c.decide.ensures in
     let same = to_z-of_z w32 c.args.literal c.ranges.literal in
-    let fewer = decided_fewer table set c.args.level c.args.trail.now c.decide.new.trail c.args.literal c.requires.unassigned decided in
+    let fewer = decided_fewer q c.args.level c.args.trail.now c.decide.new.trail c.args.literal c.requires.unassigned decided in
     let proper = subst (λ n. bad_literal n c.args.literal ≡ false) c.requires.ready.sound.wide c.requires.unassigned.0 in
-    let quiet = decided_quiet table set c.args.level c.args.trail.now c.decide.new.trail c.args.literal c.requires.unassigned decided c.args.self.now.proper c.requires.ready.sound.wide c.requires.ready.quiet in (
+    let quiet = decided_quiet q c.args.level c.args.trail.now c.decide.new.trail c.args.literal c.requires.unassigned decided c.args.self.now.proper c.requires.ready.sound.wide c.requires.ready.quiet in (
       omega (arith, c.decreases, fewer),
       (
-        subst (λ l. bad_literal table.n l ≡ false) (sym same) proper,
+        subst (λ l. bad_literal q.table.n l ≡ false) (sym same) proper,
         record {
-          sound = decided_sound table set c.args.level c.args.trail.now c.decide.new.trail c.args.literal c.requires.unassigned decided c.requires.ready.sound;
-          quiet = subst (λ l. Quiet table set (occurs set (negated l) table.entries) c.decide.new.trail) (sym same) quiet;
-          shallow = decided_within table set c.args.level c.args.trail.now c.decide.new.trail c.args.literal c.requires.unassigned decided c.requires.ready.shallow;
+          sound = decided_sound q c.args.level c.args.trail.now c.decide.new.trail c.args.literal c.requires.unassigned decided c.requires.ready.sound;
+          quiet = subst (λ l. Quiet q (losing q l) c.decide.new.trail) (sym same) quiet;
+          within = decided_within q c.args.level c.args.trail.now c.decide.new.trail c.args.literal c.requires.unassigned decided c.requires.ready.within;
           room = omega (arith, fewer, c.requires.ready.room);
           long = c.requires.ready.long;
         },
@@ -36,14 +38,14 @@ try_literal-propagate_decision-requires t c =
 
 pub try_literal-returns-clause-same : goal.try_literal-returns-clause-same
 try_literal-returns-clause-same t c =
-    all_restored c.args.self.now.tables.now c.args.self.now.set c.args.level c.args.trail.now c.decide.new.trail c.args.literal c.requires.unassigned
-    (simp (to_z-of_z, c.ranges.literal) at c.decide.ensures) c.propagate_decision.new.trail c.drop-trial.new.self.0 c.requires.ready.shallow c.propagate_decision.ensures.extends c.drop-trial.ensures
+    all_restored (query c.args.self.now) c.args.level c.args.trail.now c.decide.new.trail c.args.literal c.requires.unassigned
+    (simp (to_z-of_z, c.ranges.literal) at c.decide.ensures) c.propagate_decision.new.trail c.drop-trial.new.self.0 c.requires.ready.within c.propagate_decision.ensures.extends c.drop-trial.ensures
 
 pub try_literal-returns-clause-answer : goal.try_literal-returns-clause-answer
 try_literal-returns-clause-answer t c =
     let decided = simp (to_z-of_z, c.ranges.literal) at c.decide.ensures in
-    let made = decided_decisions c.args.self.now.tables.now c.args.self.now.set c.args.level c.args.trail.now c.decide.new.trail c.args.literal c.requires.unassigned decided in
-    subst (λ cs. Solved c.args.self.now.tables.now c.args.self.now.set cs c.args.buffer.now c.propagate_decision.result c.propagate_decision.new.buffer) made c.propagate_decision.ensures.answer
+    let made = decided_decisions (query c.args.self.now) c.args.level c.args.trail.now c.decide.new.trail c.args.literal c.requires.unassigned decided in
+    subst (λ cs. Solved (query c.args.self.now) cs c.args.buffer.now c.propagate_decision.result c.propagate_decision.new.buffer) made c.propagate_decision.ensures.answer
 
 pub propagate_decision-try_next-requires : goal.propagate_decision-try_next-requires
 propagate_decision-try_next-requires t c =
@@ -51,10 +53,10 @@ propagate_decision-try_next-requires t c =
       omega (arith, c.decreases, c.propagate.ensures.extends.fewer),
       record {
         sound = c.propagate.ensures.sound;
-        quiet = quiet none_pending c.requires.ready.quiet;
-        shallow = c.propagate.ensures.extends.shallow c.requires.ready.shallow;
-        room = omega (arith, c.propagate.ensures.extends.fewer, c.requires.ready.room);
-        long = c.requires.ready.long;
+        quiet = quiet no_clause c.requires.1.quiet;
+        within = c.propagate.ensures.extends.within c.requires.1.within;
+        room = omega (arith, c.propagate.ensures.extends.fewer, c.requires.1.room);
+        long = c.requires.1.long;
       },
     )
 
@@ -62,7 +64,7 @@ pub split-returns-then-not-has-clause-answer : goal.split-returns-then-not-has-c
 split-returns-then-not-has-clause-answer t c =
     let u = c.args.literal in
     let unused : has c.in-Err.first.decisions (place u) ≡ false = search rules in (
-      excludes_unused c.args.self.now.tables.now c.args.self.now.set (decisions c.args.trail.now) (place u) (unassigned_place c.args.trail.now u c.requires.unassigned.0) (positive u) c.in-Err.first unused
+      excludes_unused (query c.args.self.now) (decisions c.args.trail.now) (place u) (unassigned_place c.args.trail.now u c.requires.unassigned.0) (positive u) c.in-Err.first unused
           (simp (to_z-of_z, c.ranges.literal) at c.in-Err.ensures.answer.0),
       c.in-Err.ensures.answer.1,
     )
@@ -71,8 +73,8 @@ pub split-returns-then-not-has-2-clause-answer : goal.split-returns-then-not-has
 split-returns-then-not-has-2-clause-answer t c =
     let u = c.args.literal in
     let unused : has c.in-Err-try_opposite.second.decisions (place u) ≡ false = search rules in
-    let again = simp (to_z-of_z, c.ranges.literal, c.try_literal.ensures.same) at c.in-Err-try_opposite.ensures.answer.0 in (
-      excludes_unused c.args.self.now.tables.now c.args.self.now.set (decisions c.args.trail.now) (place u) (unassigned_place c.args.trail.now u c.requires.unassigned.0) (not (positive u))
+    let again = simp (to_z-of_z, c.ranges.literal, c.try_literal.ensures.same, opposite_decision c.args.trail.now u c.requires.unassigned.0) at c.in-Err-try_opposite.ensures.answer.0 in (
+      excludes_unused (query c.args.self.now) (decisions c.args.trail.now) (place u) (unassigned_place c.args.trail.now u c.requires.unassigned.0) (not (positive u))
           c.in-Err-try_opposite.second unused again,
       c.in-Err-try_opposite.ensures.answer.1 ∙ c.in-Err.ensures.answer.1,
     )
@@ -81,10 +83,10 @@ pub split-returns-clause-answer : goal.split-returns-clause-answer
 split-returns-clause-answer t c =
     let u = c.args.literal in
     let placed : c.place_of-place.result ≡ place u = search rules in
-    let again = simp (to_z-of_z, c.ranges.literal, c.try_literal.ensures.same) at c.in-Err-try_opposite.ensures.answer.0 in (
-      excludes_both c.args.self.now.tables.now c.args.self.now.set (decisions c.args.trail.now) (place u) (unassigned_place c.args.trail.now u c.requires.unassigned.0) (positive u) (not (positive u))
+    let again = simp (to_z-of_z, c.ranges.literal, c.try_literal.ensures.same, opposite_decision c.args.trail.now u c.requires.unassigned.0) at c.in-Err-try_opposite.ensures.answer.0 in (
+      excludes_both (query c.args.self.now) (decisions c.args.trail.now) (place u) (unassigned_place c.args.trail.now u c.requires.unassigned.0) (positive u) (not (positive u))
           c.in-Err.first c.in-Err-try_opposite.second c.joined.result refl
-          (λ v. c.joined.ensures.decisions v ∙ ap (λ p. (has c.in-Err.first.decisions v || has c.in-Err-try_opposite.second.decisions v) && not (eqb p v)) placed) c.joined.ensures.softs
+          (subst (λ p. IsJoined c.in-Err.first c.in-Err-try_opposite.second p c.joined.result) placed c.joined.ensures)
           (simp (to_z-of_z, c.ranges.literal) at c.in-Err.ensures.answer.0) again,
       c.in-Err-try_opposite.ensures.answer.1 ∙ c.in-Err.ensures.answer.1,
     )

@@ -1,5 +1,5 @@
 use Rattle.std.proofs.Common.{◌≡◌, ◌≤◌, IfSome, length}
-use Rattle.finder_search.specs.Searching.{Unassigned}
+use Rattle.finder_search.specs.Trail.{Unassigned}
 use Rattle.finder_search.proofs.question.Question.best_literal.Given as goal
 
 -- the clauses that are met stand before those that were visited at, and the open literal is one

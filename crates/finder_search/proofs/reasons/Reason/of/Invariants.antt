@@ -1,7 +1,7 @@
 use Rattle.std.proofs.Common.{◌≡◌, ℕ, take}
 use Rattle.terms.specs.Masks.{member}
-use Rattle.finder_search.specs.VariableSets.{has}
 use Rattle.finder_search.specs.Reasons.{clause_decisions, clause_softs}
+use Rattle.finder_search.specs.VariableSets.{has}
 use Rattle.finder_search.proofs.reasons.Reason.of.Given as goal
 
 -- the reason so far is that of the literals so far

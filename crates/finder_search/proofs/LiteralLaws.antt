@@ -4,8 +4,8 @@ use Rattle.std.proofs.lemmas.Bool.{both_ways, or_parts, eq-eqb, ltb-true, ltb-fa
 use Rattle.std.proofs.lemmas.List.{get_or_default}
 use Rattle.std.proofs.lemmas.List.Sums.{AllPass-from_list_all}
 use Rattle.terms.specs.Clauses.{Assignment, true_in, variable, bad_literal}
-use Rattle.finder_search.specs.Trail.{place, positive, negated, same}
-use Rattle.finder_search.specs.Searching.{bit}
+use Rattle.finder_search.specs.Literals.{place, positive, negated, same}
+use Rattle.finder_search.specs.Reasons.{bit}
 
 -- ---- a literal that is not bad
 pub place_within : (n : ℕ) (l : ℤ) → bad_literal n l ≡ false → place l < n
