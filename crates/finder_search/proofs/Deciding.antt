@@ -16,7 +16,7 @@ use Rattle.finder_search.proofs.Quietness.{quiet_kept}
 use Rattle.finder_search.proofs.Visiting.{kept_quiet}
 use Rattle.finder_search.specs.Query.{Query}
 
-pub unassigned_fewer : (ss : List Slot) (u : ℤ) (level : ℕ) → Unassigned ss u → unset (set ss (place u) (Decided (positive u) level)) + 1 ≡ unset ss
+unassigned_fewer : (ss : List Slot) (u : ℤ) (level : ℕ) → Unassigned ss u → unset (set ss (place u) (Decided (positive u) level)) + 1 ≡ unset ss
 unassigned_fewer ss u level unassigned = unset_set ss (place u) (Decided (positive u) level) (place_within (length ss) u unassigned.0) unassigned.1 refl
 
 -- there is room for a trial, one deeper

@@ -33,13 +33,13 @@ pub within_deeper : (d e : ℕ) (ss : List Slot) → d ≤ e → Within d ss →
 unfolding Within
 within_deeper d e ss h w v l = omega (arith, w v l)
 
-pub undone_low : (d : ℕ) (s : Slot) → level_of s ≤ d → undone d s ≡ s
+undone_low : (d : ℕ) (s : Slot) → level_of s ≤ d → undone d s ≡ s
 undone_low d Unset h = refl
 undone_low d (Decided b e) h = cond-false _ Unset (Decided b e) (le-ltb d e h)
 undone_low d (Implied b e r) h = cond-false _ Unset (Implied b e r) (le-ltb d e h)
 
 -- where nothing is deeper a undo changes nothing
-pub undone_same : (d : ℕ) (ss : List Slot) → Within d ss → map (undone d) ss ≡ ss
+undone_same : (d : ℕ) (ss : List Slot) → Within d ss → map (undone d) ss ≡ ss
 unfolding Within
 undone_same d [] w = refl
 undone_same d (s ∷ ss) w = ap₂ (λ x xs. x ∷ xs) (undone_low d s (w 0 (omega arith))) (undone_same d ss (λ v l. w (suc v) (omega arith)))

@@ -21,47 +21,13 @@ use Rattle.finder_search.specs.declared.trail.Slot.{Slot}
 use Rattle.finder_search.specs.declared.trail.Slot.TheVariants.{Unset, Decided, Implied}
 use Rattle.finder_search.specs.declared.clause_status.ClauseStatus.{ClauseStatus}
 use Rattle.finder_search.specs.declared.clause_status.ClauseStatus.TheVariants.{Satisfied, Broken, Unit as UnitClause, Open}
+use Rattle.finder_search.proofs.ClauseStatus.{broken_status, open_status, unit_status}
 use Rattle.finder_search.proofs.Extending.{extends_implied, unset_set}
 use Rattle.finder_search.proofs.Soundness.{sound_implied}
 use Rattle.finder_search.proofs.LiteralLaws.{place_within, true_is}
 use Rattle.finder_search.proofs.Quietness.{quiet_kept, quiet_made, stands_of_open}
 use Rattle.finder_search.proofs.Reasoning.{Rested, broken_clause, unit_clause, wanted_met}
 use Rattle.terms.specs.declared.limits.TheConstants.{SOFT_PLACES}
-
--- ---- what a status says of the literals
--- how many literals without a value the status tells, and the first of them
-told : ClauseStatus → ℕ
-told Satisfied = 3
-told Broken = 0
-told (UnitClause l) = 1
-told (Open l) = 2
-
-first_of : ℤ → ClauseStatus → ℤ
-first_of d Satisfied = d
-first_of d Broken = d
-first_of d (UnitClause l) = l
-first_of d (Open l) = l
-
-broken_status : (b : Bool) (ls : List ℤ) → cond b Satisfied (left_with ls) ≡ Broken → (b ≡ false) × (ls ≡ [])
-unfolding told
-broken_status true ls e = absurd (let z = ap told e in omega arith)
-broken_status false [] e = (refl, refl)
-broken_status false (l ∷ []) e = absurd (let z = ap told e in omega arith)
-broken_status false (l ∷ k ∷ ls) e = absurd (let z = ap told e in omega arith)
-
-last_status : (b : Bool) (ls : List ℤ) (u : ℤ) → cond b Satisfied (left_with ls) ≡ UnitClause u → (b ≡ false) × (ls ≡ u ∷ [])
-unfolding told first_of
-last_status true ls u e = absurd (let z = ap told e in omega arith)
-last_status false [] u e = absurd (let z = ap told e in omega arith)
-last_status false (l ∷ []) u e = (refl, ap (λ s. first_of u s ∷ []) e)
-last_status false (l ∷ k ∷ ls) u e = absurd (let z = ap told e in omega arith)
-
-open_status : (b : Bool) (ls : List ℤ) (u : ℤ) → cond b Satisfied (left_with ls) ≡ Open u → (get_or ls 0 u ≡ u) × (0 < length ls) × (b ≡ false)
-unfolding told first_of
-open_status true ls u e = absurd (let z = ap told e in omega arith)
-open_status false [] u e = absurd (let z = ap told e in omega arith)
-open_status false (l ∷ []) u e = absurd (let z = ap told e in omega arith)
-open_status false (l ∷ k ∷ ls) u e = (ap (first_of u) e, omega arith, refl)
 
 -- ---- a literal among those without a value
 unassigned_among : (n : ℕ) (ss : List Slot) (c : List ℤ) (u : ℤ) → length ss ≡ n → All (λ l. bad_literal n l ≡ false) c → 0 < length (filter (is_unassigned ss) c)
@@ -75,20 +41,20 @@ unassigned_among n ss c u wide good some e = (
 -- the last literal of a clause has no value
 pub last_unassigned : (q : Query) (ss : List Slot) (e : Entry) (u : ℤ) → Belongs q.table e → Sound q ss → status ss e.clause ≡ UnitClause u → Unassigned ss u
 last_unassigned q ss e u belongs sound h =
-    let p = last_status (list_any (is_true ss) e.clause) (filter (is_unassigned ss) e.clause) u h in
+    let p = unit_status ss e.clause u h in
     let one : 0 < length (filter (is_unassigned ss) e.clause) = let z = ap length p.1 in omega arith in
     unassigned_among q.table.n ss e.clause u sound.wide belongs.0 one (ap (λ ls. get_or ls 0 u) p.1)
 
 -- so has the first of several
 pub open_unassigned : (n : ℕ) (ss : List Slot) (e : Entry) (u : ℤ) → length ss ≡ n → IsProper n e → status ss e.clause ≡ Open u → Unassigned ss u
 open_unassigned n ss e u wide proper h =
-    let p = open_status (list_any (is_true ss) e.clause) (filter (is_unassigned ss) e.clause) u h in
+    let p = open_status ss e.clause u h in
     unassigned_among n ss e.clause u wide proper p.1 p.0
 
 -- and the clause has no true literal
 pub open_unmet : (wish : ℕ) (ss : List Slot) (e : Entry) (u : ℤ) → wanted wish e.kind ≡ true → status ss e.clause ≡ Open u → is_met wish ss e ≡ false
 open_unmet wish ss e u w h =
-    or_from (not (wanted wish e.kind)) (list_any (is_true ss) e.clause) (ap not w) (open_status (list_any (is_true ss) e.clause) (filter (is_unassigned ss) e.clause) u h).2
+    or_from (not (wanted wish e.kind)) (list_any (is_true ss) e.clause) (ap not w) (open_status ss e.clause u h).2
 
 -- ---- the reason that a clause gives
 rested : (ss : List Slot) (e : Entry) (r : Reason) → IsReason ss e r → Rested ss r e.clause
@@ -132,7 +98,7 @@ module _ (q : Query) (ss : List Slot) (e : Entry) (r : Reason) (sound : Sound q 
   -- a broken clause shows that no assignment is left
   pub excludes_broken : status ss e.clause ≡ Broken → Excludes q (decisions ss) r
   excludes_broken h =
-      let p = broken_status (list_any (is_true ss) e.clause) (filter (is_unassigned ss) e.clause) h in
+      let p = broken_status ss e.clause h in
       record {
         among = among;
         none = λ a s f. both_ways (satisfied_by a e.clause)
@@ -141,9 +107,9 @@ module _ (q : Query) (ss : List Slot) (e : Entry) (r : Reason) (sound : Sound q 
       }
 
   -- the last literal of a clause is true in each assignment that is left
-  pub backed_last : (u : ℤ) (level : ℕ) → status ss e.clause ≡ UnitClause u → Backed q (decisions ss) (place u) (Implied (positive u) level r)
+  backed_last : (u : ℤ) (level : ℕ) → status ss e.clause ≡ UnitClause u → Backed q (decisions ss) (place u) (Implied (positive u) level r)
   backed_last u level h =
-      let p = last_status (list_any (is_true ss) e.clause) (filter (is_unassigned ss) e.clause) u h in
+      let p = unit_status ss e.clause u h in
       let unassigned = last_unassigned q ss e u asked.0 sound h in (
         among,
         λ a s f.
@@ -165,7 +131,7 @@ last_implied q level ss ts e r u sound asked last implied few of =
     let value = Implied (positive u) level r in
     let unassigned = last_unassigned q ss e u asked.0 sound last in
     let within = place_within (length ss) u unassigned.0 in
-    let alone = (last_status (list_any (is_true ss) e.clause) (filter (is_unassigned ss) e.clause) u last).1 in
+    let alone = (unit_status ss e.clause u last).1 in
     record {
       extends = subst (Extends level ss) (sym implied) (extends_implied level ss (place u) (positive u) r within unassigned.1);
       sound = subst (Sound q) (sym implied)

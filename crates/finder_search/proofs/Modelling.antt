@@ -25,7 +25,7 @@ bytes_binary (Decided false d ∷ ss) = bytes_binary ss
 bytes_binary (Implied true d r ∷ ss) = bytes_binary ss
 bytes_binary (Implied false d r ∷ ss) = bytes_binary ss
 
-pub bytes_assign : (n : ℕ) (ss : List Slot) → length ss ≡ n → Assignment n (map byte_of ss)
+bytes_assign : (n : ℕ) (ss : List Slot) → length ss ≡ n → Assignment n (map byte_of ss)
 bytes_assign n ss e = (length-map ss byte_of ∙ e, bytes_binary ss)
 
 -- a true literal is true in what is byte_of

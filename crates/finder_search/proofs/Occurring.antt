@@ -65,7 +65,7 @@ one_along ns part older n h e long last =
     ∙ chain_newest n (reverse older) h (omega (arith, end, last.1))
 
 -- ---- rows
-pub row_within : (l : ℤ) → bad_literal MOST_VARIABLES l ≡ false → row l < LITERAL_ROWS
+row_within : (l : ℤ) → bad_literal MOST_VARIABLES l ≡ false → row l < LITERAL_ROWS
 row_within (pos k) h = omega (arith, place_within MOST_VARIABLES (pos k) h)
 row_within (negsuc k) h = omega (arith, place_within MOST_VARIABLES (negsuc k) h)
 
@@ -130,7 +130,7 @@ occurs_at s set l (e ∷ es) (suc k) =
     let further : s + suc k ≡ suc s + k = omega arith in
     ap₂ (λ b c. (b && (wanted set e.kind && occurs_in l e)) || c) (ne_eqb s (s + suc k) (λ z. omega arith)) (ap (occurs_from (suc s) set l es) further ∙ occurs_at (suc s) set l es k)
 
-pub occurs_all : (set : ℕ) (l : ℤ) (es : List Entry) (k : ℕ) → occurs_from 0 set l es k ≡ occurs_among set l es k
+occurs_all : (set : ℕ) (l : ℤ) (es : List Entry) (k : ℕ) → occurs_from 0 set l es k ≡ occurs_among set l es k
 occurs_all set l es k = ap (occurs_from 0 set l es) (let z : k ≡ 0 + k = omega arith in z) ∙ occurs_at 0 set l es k
 
 -- ---- one literal more of the clause with this number
@@ -156,7 +156,7 @@ literal_added old xs i number k x js l fits before e =
     ∙ ap (λ b. old || (eqb number k && b)) (sym (list_any_more (λ y. int_eq y x) xs i (pos 0) l))
 
 -- a literal that is not bad among few variables is not bad among more
-pub good_more : (m n : ℕ) (l : ℤ) → m ≤ n → bad_literal m l ≡ false → bad_literal n l ≡ false
+good_more : (m n : ℕ) (l : ℤ) → m ≤ n → bad_literal m l ≡ false → bad_literal n l ≡ false
 good_more m n l wider h =
     let p = or_parts (eqb (variable l) 0) (ltb m (variable l)) h in
     or_from (eqb (variable l) 0) (ltb n (variable l)) p.0 (le-ltb n (variable l) (omega (arith, ltb-false m (variable l) p.1)))

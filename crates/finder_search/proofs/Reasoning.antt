@@ -47,7 +47,7 @@ all_met_fewer x y a (e ∷ es) s h =
 pub satisfies_fewer : (t : Table) (x y : ℕ) (a : List ℕ) → Subset x y → Satisfies t y a → Satisfies t x a
 satisfies_fewer t x y a s h = (h.0, all_met_fewer x y a t.entries s h.1)
 
-pub follows_part : (cs : List (Option Bool)) (x y : VariableSet) (a : List ℕ) → ((v : ℕ) → has x v ≡ true → has y v ≡ true) → Follows cs y a → Follows cs x a
+follows_part : (cs : List (Option Bool)) (x y : VariableSet) (a : List ℕ) → ((v : ℕ) → has x v ≡ true → has y v ≡ true) → Follows cs y a → Follows cs x a
 unfolding Follows
 follows_part cs x y a s f v h = f v (s v h)
 

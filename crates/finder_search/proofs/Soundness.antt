@@ -15,11 +15,11 @@ use Rattle.finder_search.proofs.Extending.{unset_is, decisions_implied, decision
 use Rattle.finder_search.specs.Query.{Query}
 
 -- no decision for the variable that has no value
-pub decision_at : (ss : List Slot) (k : ℕ) → is_unset (slot_at ss k) ≡ true → get_or (decisions ss) k None ≡ None
+decision_at : (ss : List Slot) (k : ℕ) → is_unset (slot_at ss k) ≡ true → get_or (decisions ss) k None ≡ None
 decision_at ss k free = get_or-map decision_of ss k Unset ∙ ap decision_of (unset_is (slot_at ss k) free)
 
 -- ---- choosing for a variable more leaves fewer assignments
-pub follows_fewer : (cs : List (Option Bool)) (k : ℕ) (b : Bool) (E : VariableSet) (a : List ℕ) → get_or cs k None ≡ None → Follows (set cs k (Some b)) E a → Follows cs E a
+follows_fewer : (cs : List (Option Bool)) (k : ℕ) (b : Bool) (E : VariableSet) (a : List ℕ) → get_or cs k None ≡ None → Follows (set cs k (Some b)) E a → Follows cs E a
 unfolding Follows
 follows_fewer cs k b E a none f v h =
     ⊎_elim
