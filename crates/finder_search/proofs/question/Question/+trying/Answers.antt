@@ -7,7 +7,7 @@ use Rattle.finder_search.specs.Trail.{decisions}
 use Rattle.finder_search.specs.VariableSets.{has}
 use Rattle.terms.specs.Clauses.{bad_literal}
 use Rattle.finder_search.proofs.Branching.{excludes_unused, excludes_both}
-use Rattle.finder_search.proofs.Deciding.{opposite_decision, unassigned_room, unassigned_place, decided_sound, decided_decisions, decided_fewer, decided_within, decided_quiet, all_restored}
+use Rattle.finder_search.proofs.Deciding.{opposite_decision, unassigned_room, unassigned_place, decided_decisions, decided_fewer, just_decided, all_restored, propagated_ready}
 use Rattle.finder_search.specs.Question.{query}
 use Rattle.finder_search.specs.Reasons.{IsJoined}
 use Rattle.finder_search.proofs.question.Question.+trying.Goals as goal
@@ -17,47 +17,30 @@ try_literal-overflow_add-deeper t c = let room = unassigned_room c.args.trail.no
 
 pub try_literal-propagate_decision-requires : goal.try_literal-propagate_decision-requires
 try_literal-propagate_decision-requires t c =
-    let q = query c.args.self.now in
     let decided = simp (to_z-of_z, c.ranges.literal) at c.decide.ensures in
-    let same = to_z-of_z w32 c.args.literal c.ranges.literal in
-    let fewer = decided_fewer q c.args.level c.args.trail.now c.decide.new.trail c.args.literal c.requires.unassigned decided in
-    let proper = subst (λ n. bad_literal n c.args.literal ≡ false) c.requires.ready.sound.wide c.requires.unassigned.0 in
-    let quiet = decided_quiet q c.args.level c.args.trail.now c.decide.new.trail c.args.literal c.requires.unassigned decided c.args.self.now.proper c.requires.ready.sound.wide c.requires.ready.quiet in (
+    let fewer = decided_fewer c.args.level c.args.trail.now c.decide.new.trail c.args.literal c.requires.unassigned decided in (
       omega (arith, c.decreases, fewer),
-      (
-        subst (λ l. bad_literal q.table.n l ≡ false) (sym same) proper,
-        record {
-          sound = decided_sound q c.args.level c.args.trail.now c.decide.new.trail c.args.literal c.requires.unassigned decided c.requires.ready.sound;
-          quiet = subst (λ l. Quiet q (losing q l) c.decide.new.trail) (sym same) quiet;
-          within = decided_within q c.args.level c.args.trail.now c.decide.new.trail c.args.literal c.requires.unassigned decided c.requires.ready.within;
-          room = omega (arith, fewer, c.requires.ready.room);
-          long = c.requires.ready.long;
-        },
-      ),
+      simp (to_z-of_z, c.ranges.literal)
+          (just_decided c.args.level c.args.trail.now c.decide.new.trail c.args.literal c.requires.unassigned decided (query c.args.self.now) c.args.buffer.now c.args.self.now.proper c.requires.ready),
     )
 
 pub try_literal-returns-clause-same : goal.try_literal-returns-clause-same
 try_literal-returns-clause-same t c =
-    all_restored (query c.args.self.now) c.args.level c.args.trail.now c.decide.new.trail c.args.literal c.requires.unassigned
+    all_restored c.args.level c.args.trail.now c.decide.new.trail c.args.literal c.requires.unassigned
     (simp (to_z-of_z, c.ranges.literal) at c.decide.ensures) c.propagate_decision.new.trail c.drop-trial.new.self.0 c.requires.ready.within c.propagate_decision.ensures.extends c.drop-trial.ensures
 
 pub try_literal-returns-clause-answer : goal.try_literal-returns-clause-answer
 try_literal-returns-clause-answer t c =
     let decided = simp (to_z-of_z, c.ranges.literal) at c.decide.ensures in
-    let made = decided_decisions (query c.args.self.now) c.args.level c.args.trail.now c.decide.new.trail c.args.literal c.requires.unassigned decided in
+    let made = decided_decisions c.args.level c.args.trail.now c.decide.new.trail c.args.literal c.requires.unassigned decided in
     subst (λ cs. Solved (query c.args.self.now) cs c.args.buffer.now c.propagate_decision.result c.propagate_decision.new.buffer) made c.propagate_decision.ensures.answer
 
 pub propagate_decision-try_next-requires : goal.propagate_decision-try_next-requires
 propagate_decision-try_next-requires t c =
-    let quiet = simp (to_z-of_z, c.ranges.literal) at c.in_ok-propagate.ensures.propagated in (
+    let propagated = simp (to_z-of_z, c.ranges.literal) at c.in_ok-propagate.ensures.propagated in (
       omega (arith, c.decreases, c.propagate.ensures.extends.fewer),
-      record {
-        sound = c.propagate.ensures.sound;
-        quiet = quiet no_clause c.requires.1.quiet;
-        within = c.propagate.ensures.extends.within c.requires.1.within;
-        room = omega (arith, c.propagate.ensures.extends.fewer, c.requires.1.room);
-        long = c.requires.1.long;
-      },
+      propagated_ready (query c.args.self.now) c.args.literal c.args.level c.args.trail.now c.propagate.new.trail c.args.buffer.now c.requires
+          c.propagate.ensures.extends c.propagate.ensures.sound propagated,
     )
 
 pub split-returns-then-not-has-clause-answer : goal.split-returns-then-not-has-clause-answer
