@@ -1,5 +1,5 @@
 -- What is implied from a clause by its status: a reason why it is broken, or a value for its last literal.
-use Rattle.std.proofs.Common.{◌≡◌, ℕ, ◌<◌, Bool, true, false, not, cond, eqb, ltb, List, [], ◌∷◌, length, get_or, set, All, ℤ, Option, sym, refl, ap, ◌∙◌, subst, ⊎_elim, arith}
+use Rattle.std.proofs.Common.{◌≡◌, ℕ, ◌<◌, Bool, true, false, not, eqb, ltb, List, [], ◌∷◌, length, get_or, set, All, ℤ, Option, sym, refl, ap, ◌∙◌, subst, ⊎_elim, arith}
 use Rattle.std.specs.List.{list_any, filter}
 use Rattle.std.proofs.lemmas.Bool.{both_ways, and_parts, and_from, or_cases, or_from, or_left, or_right, eq-eqb, eqb-true, lt-ltb}
 use Rattle.std.proofs.lemmas.List.Elements.{All-head, All-rest, All-filter, filter_passes}
@@ -10,7 +10,7 @@ use Rattle.clause_tables.specs.Entries.{Entry, IsProper}
 use Rattle.clause_tables.specs.Wanted.{wanted}
 use Rattle.clause_tables.specs.declared.records.ClauseKind.{ClauseKind}
 use Rattle.clause_tables.specs.declared.records.ClauseKind.TheVariants.{Hard, Soft}
-use Rattle.finder_search.specs.ClauseStatus.{is_true, status, left_with}
+use Rattle.finder_search.specs.ClauseStatus.{is_true, status}
 use Rattle.finder_search.specs.Literals.{place, positive, same}
 use Rattle.finder_search.specs.Propagation.{Sound, Belongs, is_met, IsAsked, ImpliesLast}
 use Rattle.finder_search.specs.Query.{Satisfies, Query}
@@ -19,8 +19,7 @@ use Rattle.finder_search.specs.Trail.{slot_at, unset, rests_on_soft, is_unassign
 use Rattle.finder_search.specs.declared.reasons.Reason.{Reason}
 use Rattle.finder_search.specs.declared.trail.Slot.{Slot}
 use Rattle.finder_search.specs.declared.trail.Slot.TheVariants.{Unset, Decided, Implied}
-use Rattle.finder_search.specs.declared.clause_status.ClauseStatus.{ClauseStatus}
-use Rattle.finder_search.specs.declared.clause_status.ClauseStatus.TheVariants.{Satisfied, Broken, Unit as UnitClause, Open}
+use Rattle.finder_search.specs.declared.clause_status.ClauseStatus.TheVariants.{Broken, Unit as UnitClause, Open}
 use Rattle.finder_search.proofs.ClauseStatus.{broken_status, open_status, unit_status}
 use Rattle.finder_search.proofs.Extending.{extends_implied, unset_set}
 use Rattle.finder_search.proofs.Soundness.{sound_implied}

@@ -6,7 +6,7 @@ pub mod Quietness
 pub mod Implying
 pub mod Branching
 pub mod Modelling
-pub mod Joined
+pub mod Union
 pub mod Undoing
 pub mod ClauseStatus
 pub mod Beginning

@@ -50,14 +50,13 @@ impl VariableSet {
         VariableSet { parts }
     }
 
-    #[tactic(auto, using(crate::proofs::Joined::joined), unfolding(crate::specs::VariableSets::has))]
     pub(crate) fn union(self, other: VariableSet) -> VariableSet
         ensures { (v : ℕ) → has result v ≡ (has self v || has other v) }
     {
-        let [a, b, c, d] = self.parts;
-        let [e, f, g, h] = other.parts;
-        VariableSet {
-            parts: [a.union(e), b.union(f), c.union(g), d.union(h)],
+        let mut parts = self.parts;
+        for place in 0..PARTS {
+            parts[place] = parts[place].union(other.parts[place]);
         }
+        VariableSet { parts }
     }
 }

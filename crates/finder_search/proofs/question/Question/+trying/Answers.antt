@@ -1,11 +1,9 @@
-use Rattle.std.proofs.Common.{◌≡◌, false, not, ◌∙◌, subst, sym, refl, arith, rules, w32}
+use Rattle.std.proofs.Common.{◌≡◌, false, not, ◌∙◌, subst, refl, arith, rules}
 use Rattle.std.proofs.lemmas.Int.{to_z-of_z}
 use Rattle.finder_search.specs.Literals.{place, positive}
-use Rattle.finder_search.specs.Propagation.{Quiet, no_clause, losing}
 use Rattle.finder_search.specs.Splitting.{Solved}
 use Rattle.finder_search.specs.Trail.{decisions}
 use Rattle.finder_search.specs.VariableSets.{has}
-use Rattle.terms.specs.Clauses.{bad_literal}
 use Rattle.finder_search.proofs.Branching.{excludes_unused, excludes_both}
 use Rattle.finder_search.proofs.Deciding.{opposite_decision, unassigned_room, unassigned_place, decided_decisions, decided_fewer, just_decided, all_restored, propagated_ready}
 use Rattle.finder_search.specs.Question.{query}
