@@ -60,7 +60,7 @@ excludes_core q r order given h = record {
 
 -- at a core the buffer is as it was, and at a model behind the first n bytes
 pub asked : (q : Query) (n : ℕ) (before after : List ℕ) (r : Result Unit Reason) → n ≡ q.table.n → numbered 0 q.table.entries ≡ true → Below (length (softs q.table.entries)) q.set
-    → Solved q (decisions (replicate q.table.n Unset)) (take n before) r after → Asked (meaning_of q.table) q.set before (Ok (answer_to r)) (after ++ drop n before)
+    → Solved q (replicate q.table.n Unset) (take n before) r after → Asked (meaning_of q.table) q.set before (Ok (answer_to r)) (after ++ drop n before)
 asked q n before after (Ok u) e order given h = (
   subst (Model (meaning_of q.table) q.set) (sym (ap (λ k. take k (after ++ drop n before)) (sym h.0.0) ∙ take-append_seam after (drop n before))) (satisfies_model q.table q.set after order h),
   drop-append-drop n before after q.table.n (omega (arith, e)) (h.0.0 ∙ sym e),

@@ -47,7 +47,8 @@ is_quiet set ss e = is_met set ss e || is_several (filter (is_unassigned ss) e.c
 -- each clause is quiet but those with a number that is pending
 abbrev pub Quiet : Query → (ℕ → Bool) → List Slot → Type 0
 Quiet q pending ss =
-    (k : ℕ) → (e : Entry) → slice_get q.table.entries k ≡ Some e → pending k ≡ false → is_quiet q.set ss e ≡ true
+    (k : ℕ) → (e : Entry) → slice_get q.table.entries k ≡ Some e → pending k ≡ false
+    → is_quiet q.set ss e ≡ true
 
 abbrev pub no_clause : ℕ → Bool
 no_clause k = false
@@ -58,11 +59,16 @@ one_clause number k = number == k
 abbrev pub each_clause : ℕ → Bool
 each_clause k = true
 
+-- the clauses that lose a literal where this one is made true
+abbrev pub losing : Query → ℤ → ℕ → Bool
+losing q l = occurs q (negated l)
+
 -- ---- propagation
 -- clauses stay quiet from ss to ts but those that lose the opposite of the literal
 abbrev pub Keeps : Query → ℤ → List Slot → List Slot → Type 0
 Keeps q l ss ts =
-    (e : Entry) → IsProper q.table.n e → is_quiet q.set ss e ≡ true → occurs_in (negated l) e ≡ false → is_quiet q.set ts e ≡ true
+    (e : Entry) → IsProper q.table.n e → is_quiet q.set ss e ≡ true → occurs_in (negated l) e ≡ false
+    → is_quiet q.set ts e ≡ true
 
 -- from ss to ts the last literal of a unit clause was made true
 pub record ImpliesLast (q : Query) (level : ℕ) (ss ts : List Slot) (e : Entry) (l : ℤ) : Type 0 where
@@ -77,9 +83,10 @@ pub record ImpliesLast (q : Query) (level : ℕ) (ss ts : List Slot) (e : Entry)
 -- What comes of visiting clauses: they are quiet then, and so are those that were before,
 -- unless it is found that there is no model.
 abbrev pub Propagated : Query → (ℕ → Bool) → List Slot → Result Unit Reason → List Slot → Type 0
-Propagated q visited ss (Ok u) ts = (pending : ℕ → Bool) → Quiet q (λ k. pending k || visited k) ss → Quiet q pending ts
+Propagated q visited ss (Ok u) ts =
+    (pending : ℕ → Bool) → Quiet q (λ k. pending k || visited k) ss → Quiet q pending ts
 Propagated q visited ss (Err r) ts = Excludes q (decisions ss) r
 
--- the clauses that lose a literal where this one is made true
-abbrev pub losing : Query → ℤ → ℕ → Bool
-losing q l = occurs q (negated l)
+-- what comes of visiting those that lose a literal
+abbrev pub PropagatedLiteral : Query → ℤ → List Slot → Result Unit Reason → List Slot → Type 0
+PropagatedLiteral q l = Propagated q (losing q l)

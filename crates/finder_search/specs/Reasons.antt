@@ -35,7 +35,13 @@ IsReason ss e r =
     ((v : ℕ) → has r.decisions v ≡ clause_decisions ss e.clause v)
     × ((k : ℕ) → member r.softs k ≡ clause_softs ss e.kind e.clause k)
 
--- both reasons together, but for the decision of the variable at this place
+-- both reasons together
+abbrev pub IsUnion : Reason → Reason → Reason → Type 0
+IsUnion x y r =
+    ((v : ℕ) → has r.decisions v ≡ (has x.decisions v || has y.decisions v))
+    × ((k : ℕ) → member r.softs k ≡ (member x.softs k || member y.softs k))
+
+-- both, but for the decision of the variable at this place
 abbrev pub IsJoined : Reason → Reason → ℕ → Reason → Type 0
 IsJoined x y place r =
     ((v : ℕ) → has r.decisions v ≡ ((has x.decisions v || has y.decisions v) && not (place == v)))
@@ -59,7 +65,7 @@ pub record Excludes (q : Query) (ds : List (Option Bool)) (r : Reason) : Type 0 
   pub among : Subset r.softs q.set
   pub none : (a : List ℕ) → Satisfies q.table r.softs a → Follows ds r.decisions a → ⊥
 
--- an implied value is that of each assignment that satisfies its reason's soft clauses and follows its decisions
+-- each assignment that satisfies the reason's soft clauses and follows its decisions has the implied value
 abbrev pub Backed : Query → List (Option Bool) → ℕ → Slot → Type 0
 Backed q ds v Unset = Unit {0}
 Backed q ds v (Decided b d) = Unit {0}

@@ -27,7 +27,7 @@ Ready q = Pending q no_clause
 abbrev pub JustDecided : Query → ℤ → ℕ → List Slot → List ℕ → Type 0
 JustDecided q l level ss buffer = (bad_literal q.table.n l ≡ false) × Pending q (losing q l) level ss buffer
 
--- the decisions with that of a literal more
+-- the decisions with that of this literal
 abbrev pub with_decision : List Slot → ℤ → List (Option Bool)
 with_decision ss l = slice_set (decisions ss) (place l) (Some (positive l))
 
@@ -43,6 +43,14 @@ Next q ss None = Satisfies q.table q.set (map byte_of ss)
 Next q ss (Some l) = Unassigned ss l
 
 -- ---- the answer: a model in the buffer, or why there is none under the decisions, with the buffer as it was
-abbrev pub Solved : Query → List (Option Bool) → List ℕ → Result Unit Reason → List ℕ → Type 0
-Solved q ds before (Ok u) after = Satisfies q.table q.set after
-Solved q ds before (Err r) after = Excludes q ds r × (after ≡ before)
+abbrev pub Answers : Query → List (Option Bool) → List ℕ → Result Unit Reason → List ℕ → Type 0
+Answers q ds before (Ok u) after = Satisfies q.table q.set after
+Answers q ds before (Err r) after = Excludes q ds r × (after ≡ before)
+
+-- under the decisions of the trail
+abbrev pub Solved : Query → List Slot → List ℕ → Result Unit Reason → List ℕ → Type 0
+Solved q ss = Answers q (decisions ss)
+
+-- and under that of a literal more
+abbrev pub SolvedWith : Query → List Slot → ℤ → List ℕ → Result Unit Reason → List ℕ → Type 0
+SolvedWith q ss l = Answers q (with_decision ss l)

@@ -1,4 +1,4 @@
--- How each variable stands while a search is on: its value, the level at which it got that, and what that rests on.
+-- How each variable stands while a search is on: its value, its level, and what the value rests on.
 use Rattle.std.specs.Prelude.{◌≡◌, ℕ, ◌+◌, ◌<◌, ◌≤◌, Bool, true, false, if◌then◌else◌, List, [], ◌∷◌, map, length, ℤ, Some, None, Option, ◌==◌, nat_lt, slice_index_or}
 use Rattle.terms.specs.Clauses.{bad_literal}
 use Rattle.terms.specs.Masks.{member}

@@ -16,8 +16,8 @@ use finders::{Answer, Finder};
 use terms::limits::MOST_VARIABLES;
 use terms::{Refusal, SoftSet};
 
-/// Finds a model by DPLL (Davis, Logemann and Loveland 1962) with conflict-directed backjumping (Prosser 1993), for up to
-/// `MOST_VARIABLES` variables.
+/// Finds a model for up to `MOST_VARIABLES` variables, by DPLL (Davis, Logemann and Loveland 1962) with conflict-directed
+/// backjumping (Prosser 1993).
 #[derive(Debug, Drop)]
 pub struct Search<'a> {
     tables: Tables<'a>,

@@ -1,4 +1,4 @@
-//! In which order the clauses are looked through for the next literal. It bears on the speed of a search, and on nothing else.
+//! In which order the clauses are scored for the next literal. It bears on the speed of a search, and on nothing else.
 ghost use Rattle.std.specs.Prelude.{◌≤◌, length};
 
 use clause_tables::{Clause, Tables};

@@ -3,7 +3,7 @@ ghost use Rattle.std.specs.Prelude.{◌≡◌, false};
 ghost use Rattle.terms.specs.Clauses.{bad_literal};
 ghost use Rattle.clause_tables.specs.Entries.{as_entry};
 ghost use Rattle.finder_search.specs.ClauseStatus.{status};
-ghost use Rattle.finder_search.specs.Propagation.{ImpliesLast, IsAsked, Propagated, Sound, each_clause, losing, one_clause};
+ghost use Rattle.finder_search.specs.Propagation.{ImpliesLast, IsAsked, Propagated, PropagatedLiteral, Sound, each_clause, one_clause};
 ghost use Rattle.finder_search.specs.Question.{query};
 ghost use Rattle.finder_search.specs.Reasons.{Excludes, IsReason};
 ghost use Rattle.finder_search.specs.Trail.{Extends, decisions};
@@ -44,7 +44,7 @@ impl Question<'_> {
         requires sound { Sound (query self.now) trail.old }
         ensures extends { Extends level trail.old trail.new }
         ensures sound { Sound (query self.now) trail.new }
-        ensures propagated { Propagated (query self.now) (losing (query self.now) literal) trail.old result trail.new }
+        ensures propagated { PropagatedLiteral (query self.now) literal trail.old result trail.new }
     {
         for number in self.occurrences.with(opposite(literal)) {
             self.visit(usize::from(number), trail, level)?;

@@ -1,10 +1,10 @@
 //! Why a value is implied, or why a clause is in conflict.
-ghost use Rattle.std.specs.Prelude.{◌≡◌, ◌==◌, ℕ, ◌<◌, ◌≤◌, false, not, ◌&&◌, ◌||◌, All, length};
+ghost use Rattle.std.specs.Prelude.{◌≡◌, ◌==◌, ℕ, ◌<◌, ◌≤◌, false, All, length};
 ghost use Rattle.terms.specs.Clauses.{bad_literal};
 ghost use Rattle.terms.specs.Masks.{member};
 ghost use Rattle.clause_tables.specs.Entries.{as_entry};
 ghost use Rattle.finder_search.specs.VariableSets.{has};
-ghost use Rattle.finder_search.specs.Reasons.{IsJoined, IsReason, is_number};
+ghost use Rattle.finder_search.specs.Reasons.{IsJoined, IsReason, IsUnion, is_number};
 
 use crate::literals::place_of;
 use crate::trail::Slot;
@@ -73,8 +73,7 @@ impl Reason {
     }
 
     fn union(self, other: Reason) -> Reason
-        ensures decisions { (v : ℕ) → has result.decisions v ≡ (has self.decisions v || has other.decisions v) }
-        ensures softs { (k : ℕ) → member result.softs k ≡ (member self.softs k || member other.softs k) }
+        ensures { IsUnion self other result }
     {
         Reason {
             decisions: self.decisions.union(other.decisions),

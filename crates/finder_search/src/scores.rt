@@ -1,5 +1,5 @@
-//! Which literal to try next. Scores are after Jeroslow and Wang (1990): an open clause counts exponentially more the fewer of
-//! its literals have no value. Those of a variable's two literals are multiplied.
+//! Which literal to try next. Scores are after Jeroslow and Wang (1990): an open clause counts the less the more of its
+//! literals have no value, for each by a factor of 4 where theirs is 2. Those of a variable's two literals are multiplied.
 ghost use Rattle.std.specs.Prelude.{◌≡◌, ◌+◌, ◌<◌, ◌≤◌, false, All, length};
 ghost use Rattle.terms.specs.Clauses.{bad_literal, variable};
 ghost use Rattle.finder_search.specs.Trail.{Unassigned};
@@ -8,25 +8,25 @@ use crate::literals::{LITERAL_ROWS, place_of, row_of};
 use crate::trail::Slot;
 use terms::limits::MOST_VARIABLES;
 
-/// After so many clauses long ones more would hardly change which literal is best: tuned on bench, no promise.
+/// After so many clauses long ones more hardly change which literal is best: tuned on bench, no promise.
 const ENOUGH_CLAUSES: u16 = 64;
 
-/// The weight of an open clause is 2 to this power, less a step for each literal without a value: tuned on bench, no promise.
+/// The weight of an open clause is 2 to this power less the steps: tuned on bench, no promise.
 const TOP_POWER: usize = 20;
 
-/// How much a literal without a value takes from the power: tuned on bench, no promise.
+/// What a literal without a value takes from that power: tuned on bench, no promise.
 const STEP: usize = 2;
 
-/// The literals without a value that are counted for that, at most: tuned on bench, no promise.
+/// The literals that are counted for this, at most: tuned on bench, no promise.
 const MOST_STEPS: usize = 9;
 
-/// By what the weight is divided where no literal has a value, in a binary clause: tuned on bench, no promise.
+/// What divides the weight of a binary clause of which no literal has a value: tuned on bench, no promise.
 const UNTOUCHED_BINARY: u32 = 64;
 
-/// By what it is divided there in a longer clause: tuned on bench, no promise.
+/// What divides that of a longer one: tuned on bench, no promise.
 const UNTOUCHED_LONGER: u32 = 2;
 
-/// A score is far more than another from so many times that on: tuned on bench, no promise.
+/// The negative literal's score is far greater from so many times the positive one's on: tuned on bench, no promise.
 const FAR_MORE: u32 = 2;
 
 /// How much each literal would do for the open clauses, by its row.
@@ -100,7 +100,7 @@ impl Scores {
         (self.rows[2 * place], self.rows[2 * place + 1])
     }
 
-    /// The literal that does more; but the positive one where it does something and implies far more.
+    /// The literal with the greater score; the positive one too where the other's is far greater, as it implies much then.
     fn literal(&self, place: usize) -> i32
         requires { place < MOST_VARIABLES }
         ensures { variable result ≡ place + 1 }
@@ -116,7 +116,7 @@ impl Scores {
     }
 }
 
-/// How much an open clause counts for each of its literals. One without a value in any says nothing of the decisions so far.
+/// How much an open clause counts. One of which no literal has a value says nothing of the decisions so far.
 fn weight(left: usize, size: usize) -> u32 {
     let touched = 1_u32 << (TOP_POWER - STEP * left.min(MOST_STEPS));
     if left < size {

@@ -4,8 +4,8 @@ ghost use Rattle.clause_tables.specs.Entries.{IsProper, as_entry};
 ghost use Rattle.finder_search.specs.Literals.{negated};
 ghost use Rattle.finder_search.specs.Propagation.{Quiet, Sound, no_clause};
 ghost use Rattle.finder_search.specs.Question.{query};
-ghost use Rattle.finder_search.specs.Splitting.{JustDecided, Next, OpenIn, Ready, Solved, with_decision};
-ghost use Rattle.finder_search.specs.Trail.{Extends, Unassigned, decisions};
+ghost use Rattle.finder_search.specs.Splitting.{JustDecided, Next, OpenIn, Ready, Solved, SolvedWith};
+ghost use Rattle.finder_search.specs.Trail.{Extends, Unassigned};
 
 use crate::clause_status::{ClauseStatus, status_of};
 use crate::literals::{opposite, place_of};
@@ -25,11 +25,11 @@ struct Pick {
 }
 
 impl Question<'_> {
-    /// Searches from trail without a value.
+    /// Solves it on a trail without a value.
     pub(crate) fn solve(&self, trail: &mut [Slot], buffer: &mut [u8]) -> Result<(), Reason>
         requires unset { trail.old ≡ replicate self.now.tables.now.n Slot.Unset }
         requires long { length buffer.old ≡ self.now.tables.now.n }
-        ensures { Solved (query self.now) (decisions trail.old) buffer.old result buffer.new }
+        ensures { Solved (query self.now) trail.old buffer.old result buffer.new }
     {
         self.propagate_at_root(trail)?;
         let mut order = [0; TABLE_PLACES];
@@ -48,7 +48,7 @@ impl Question<'_> {
     ) -> Result<(), Reason>
         requires { Ready (query self.now) level trail.old buffer.old }
         ensures same { trail.new ≡ trail.old }
-        ensures answer { Solved (query self.now) (decisions trail.old) buffer.old result buffer.new }
+        ensures answer { Solved (query self.now) trail.old buffer.old result buffer.new }
     {
         match self.next_literal(trail, order) {
             Some(next) => self.split(next.literal, trail, buffer, level, &mut order[next.met..]),
@@ -59,7 +59,8 @@ impl Question<'_> {
         }
     }
 
-    /// Tries the literal, and then its opposite. The second is spared where the first failed for other reasons.
+    /// Tries the literal, and then its opposite: conflict-directed backjumping spares the second where the first failed for a
+    /// reason without this decision.
     #[cycle(trying)]
     fn split(
         &self,
@@ -72,7 +73,7 @@ impl Question<'_> {
         requires ready { Ready (query self.now) level trail.old buffer.old }
         requires unassigned { Unassigned trail.old literal }
         ensures same { trail.new ≡ trail.old }
-        ensures answer { Solved (query self.now) (decisions trail.old) buffer.old result buffer.new }
+        ensures answer { Solved (query self.now) trail.old buffer.old result buffer.new }
     {
         let place = place_of(literal);
         let Err(first) = self.try_literal(literal, trail, buffer, level, order) else {
@@ -90,7 +91,7 @@ impl Question<'_> {
         Err(first.joined(second, place))
     }
 
-    /// Searches with the literal false.
+    /// Solves it with the literal false.
     #[cycle(trying)]
     #[tactic(auto, using(crate::proofs::LiteralLaws::place_negated, crate::proofs::LiteralLaws::positive_negated, crate::proofs::LiteralLaws::bad_negated))]
     fn try_opposite(
@@ -104,12 +105,12 @@ impl Question<'_> {
         requires ready { Ready (query self.now) level trail.old buffer.old }
         requires unassigned { Unassigned trail.old literal }
         ensures same { trail.new ≡ trail.old }
-        ensures answer { Solved (query self.now) (with_decision trail.old (negated literal)) buffer.old result buffer.new }
+        ensures answer { SolvedWith (query self.now) trail.old (negated literal) buffer.old result buffer.new }
     {
         self.try_literal(opposite(literal), trail, buffer, level, order)
     }
 
-    /// Searches with the literal true, and unsets all that this sets.
+    /// Solves it with the literal true, and unsets all that this sets.
     #[cycle(trying)]
     fn try_literal(
         &self,
@@ -122,7 +123,7 @@ impl Question<'_> {
         requires ready { Ready (query self.now) level trail.old buffer.old }
         requires unassigned { Unassigned trail.old literal }
         ensures same { trail.new ≡ trail.old }
-        ensures answer { Solved (query self.now) (with_decision trail.old literal) buffer.old result buffer.new }
+        ensures answer { SolvedWith (query self.now) trail.old literal buffer.old result buffer.new }
     {
         let deeper = level + 1;
         let trial = Trial { trail, level };
@@ -130,7 +131,7 @@ impl Question<'_> {
         self.propagate_decision(literal, trial.trail, buffer, deeper, order)
     }
 
-    /// Draws what follows from the literal, which was just decided, and then tries the next variable.
+    /// Propagates the literal, which was just decided, and then tries the next variable.
     #[cycle(trying)]
     fn propagate_decision(
         &self,
@@ -142,7 +143,7 @@ impl Question<'_> {
     ) -> Result<(), Reason>
         requires { JustDecided (query self.now) literal level trail.old buffer.old }
         ensures extends { Extends level trail.old trail.new }
-        ensures answer { Solved (query self.now) (decisions trail.old) buffer.old result buffer.new }
+        ensures answer { Solved (query self.now) trail.old buffer.old result buffer.new }
     {
         self.propagate(literal, trail, level)?;
         self.try_next(trail, buffer, level, order)
@@ -162,7 +163,7 @@ impl Question<'_> {
         Some(Pick { literal, met: 0 })
     }
 
-    /// What does most for the open clauses of the order, where one of them is open. Clauses that are met come to its front.
+    /// The literal with the best score in the clauses of the order, where one is open. Those that are met come to its front.
     #[tactic(auto, using(crate::proofs::Belonging::listed_belongs))]
     fn best_literal(&self, trail: &[Slot], order: &mut [u16]) -> Option<Pick>
         requires wide { length trail.now ≡ self.now.tables.now.n }

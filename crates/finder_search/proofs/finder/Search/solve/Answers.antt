@@ -7,7 +7,6 @@ use Rattle.clause_tables.specs.Entries.{numbered}
 use Rattle.clause_tables.specs.Table.{meaning_of}
 use Rattle.finder_search.specs.Query.{asking}
 use Rattle.finder_search.specs.Splitting.{Solved}
-use Rattle.finder_search.specs.Trail.{decisions}
 use Rattle.finder_search.specs.declared.trail.Slot.TheVariants.{Unset}
 use Rattle.finder_search.proofs.Beginning.{asked, few_known, root_trail}
 use Rattle.finder_search.proofs.finder.Search.solve.Goals as goal
@@ -34,11 +33,11 @@ returns c =
     let n = c.variables-n.result in
     let before = c.args.buffer.now in
     let after = c.solve.new.buffer in
-    let solved : Solved q (decisions (take n (replicate MOST_VARIABLES Unset))) (take n before) c.solve.result after =
-    subst (λ p. Solved p (decisions (take n (replicate MOST_VARIABLES Unset))) (take n before) c.solve.result after) c.new-question.ensures c.solve.ensures in
+    let solved : Solved q (take n (replicate MOST_VARIABLES Unset)) (take n before) c.solve.result after =
+    subst (λ p. Solved p (take n (replicate MOST_VARIABLES Unset)) (take n before) c.solve.result after) c.new-question.ensures c.solve.ensures in
     let trail = root_trail n q.table.n (omega (arith, c.variables-n.ensures, c.args.self.now.limited.0)) c.variables-n.ensures in
     subst (λ a. Asked (meaning_of q.table) q.set before (Ok a) (after ++ drop n before)) (sym c.answer.ensures)
     (asked q n before after c.solve.result c.variables-n.ensures
     (subst (λ p. IsTrue (numbered 0 p.table.entries)) c.new-question.ensures c.new-question.result.ordered)
     (asked_well (meaning_of q.table) q.set before c.requires).1
-    (subst (λ ss. Solved q (decisions ss) (take n before) c.solve.result after) trail solved))
+    (subst (λ ss. Solved q ss (take n before) c.solve.result after) trail solved))

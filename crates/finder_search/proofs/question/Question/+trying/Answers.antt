@@ -1,7 +1,7 @@
 use Rattle.std.proofs.Common.{◌≡◌, false, not, ◌∙◌, subst, refl, arith, rules}
 use Rattle.std.proofs.lemmas.Int.{to_z-of_z}
 use Rattle.finder_search.specs.Literals.{place, positive}
-use Rattle.finder_search.specs.Splitting.{Solved}
+use Rattle.finder_search.specs.Splitting.{Answers}
 use Rattle.finder_search.specs.Trail.{decisions}
 use Rattle.finder_search.specs.VariableSets.{has}
 use Rattle.finder_search.proofs.Branching.{excludes_unused, excludes_both}
@@ -31,7 +31,7 @@ pub try_literal-returns-clause-answer : goal.try_literal-returns-clause-answer
 try_literal-returns-clause-answer t c =
     let decided = simp (to_z-of_z, c.ranges.literal) at c.decide.ensures in
     let made = decided_decisions c.args.level c.args.trail.now c.decide.new.trail c.args.literal c.requires.unassigned decided in
-    subst (λ cs. Solved (query c.args.self.now) cs c.args.buffer.now c.propagate_decision.result c.propagate_decision.new.buffer) made c.propagate_decision.ensures.answer
+    subst (λ cs. Answers (query c.args.self.now) cs c.args.buffer.now c.propagate_decision.result c.propagate_decision.new.buffer) made c.propagate_decision.ensures.answer
 
 pub propagate_decision-try_next-requires : goal.propagate_decision-try_next-requires
 propagate_decision-try_next-requires t c =
