@@ -50,7 +50,7 @@ module _ (level : ℕ) (ss us : List Slot) (u : ℤ) (unassigned : Unassigned ss
       sound = subst (Sound q) (sym decided)
           (sound_decided q ss (place u) (positive u) (level + 1) (place_within (length ss) u unassigned.0) unassigned.1 ready.sound);
       quiet = λ k x at without.
-          kept_quiet q k u x ss us proper at (quiet_kept q.table.n ss us u (Decided (positive u) (level + 1)) unassigned ready.sound.wide refl decided q.set)
+          kept_quiet q k u x ss us proper at (quiet_kept q.table.n ss us u (Decided (positive u) (level + 1)) unassigned ready.sound.wide refl decided q)
           (ready.quiet k x at refl) without;
       within = decided_within ready.within;
       room = omega (arith, decided_fewer, ready.room);

@@ -51,9 +51,9 @@ open_unassigned n ss e u wide proper h =
     unassigned_among n ss e.clause u wide proper p.1 p.0
 
 -- and the clause has no true literal
-pub open_unmet : (wish : ℕ) (ss : List Slot) (e : Entry) (u : ℤ) → wanted wish e.kind ≡ true → status ss e.clause ≡ Open u → is_met wish ss e ≡ false
-open_unmet wish ss e u w h =
-    or_from (not (wanted wish e.kind)) (list_any (is_true ss) e.clause) (ap not w) (open_status ss e.clause u h).2
+pub open_unmet : (q : Query) (ss : List Slot) (e : Entry) (u : ℤ) → wanted q.set e.kind ≡ true → status ss e.clause ≡ Open u → is_met q ss e ≡ false
+open_unmet q ss e u w h =
+    or_from (not (wanted q.set e.kind)) (list_any (is_true ss) e.clause) (ap not w) (open_status ss e.clause u h).2
 
 -- ---- the reason that a clause gives
 rested : (ss : List Slot) (e : Entry) (r : Reason) → IsReason ss e r → Rested ss r e.clause
@@ -137,6 +137,6 @@ last_implied q level ss ts e r u sound asked last implied few of =
           (sound_implied q ss (place u) (positive u) level r within unassigned.1 sound (backed_last q ss e r sound asked few of u level last));
       fewer = omega (arith, ap unset implied, unset_set ss (place u) value within unassigned.1 refl);
       proper = subst (λ n. bad_literal n u ≡ false) sound.wide unassigned.0;
-      keeps = quiet_kept q.table.n ss ts u value unassigned sound.wide refl implied q.set;
-      own = quiet_made q.table.n ss ts u value unassigned sound.wide refl implied q.set e (stands_of_open ss e.clause u alone);
+      keeps = quiet_kept q.table.n ss ts u value unassigned sound.wide refl implied q;
+      own = quiet_made q.table.n ss ts u value unassigned sound.wide refl implied q e (stands_of_open ss e.clause u alone);
     }

@@ -51,16 +51,16 @@ module _ (n : ℕ) (ss : List Slot) (wide : length ss ≡ n) where
       (λ e. or_right (true_in (map byte_of ss) l) _ (bytes_satisfy c (All-rest (λ x. bad_literal n x ≡ false) l c _ refl good) e))
       (or_cases (is_true ss l) (list_any (is_true ss) c) h)
 
-  bytes_meet : (wish : ℕ) (es : List Entry) → All (IsProper n) es → list_all (is_met wish ss) es ≡ true → all_met wish (map byte_of ss) es ≡ true
-  bytes_meet wish [] good h = refl
-  bytes_meet wish (e ∷ es) good h =
-      let p = and_parts (is_met wish ss e) (list_all (is_met wish ss) es) h in
-      and_from (met wish (map byte_of ss) e.kind e.clause) (all_met wish (map byte_of ss) es)
+  bytes_meet : (q : Query) (es : List Entry) → All (IsProper n) es → list_all (is_met q ss) es ≡ true → all_met q.set (map byte_of ss) es ≡ true
+  bytes_meet q [] good h = refl
+  bytes_meet q (e ∷ es) good h =
+      let p = and_parts (is_met q ss e) (list_all (is_met q ss) es) h in
+      and_from (met q.set (map byte_of ss) e.kind e.clause) (all_met q.set (map byte_of ss) es)
       (⊎_elim
-      (λ out. or_left (not (wanted wish e.kind)) _ out)
-      (λ sat. or_right (not (wanted wish e.kind)) _ (bytes_satisfy e.clause (All-head (IsProper n) e es good) sat))
-      (or_cases (not (wanted wish e.kind)) (list_any (is_true ss) e.clause) p.0))
-      (bytes_meet wish es (All-rest (IsProper n) e es _ refl good) p.1)
+      (λ out. or_left (not (wanted q.set e.kind)) _ out)
+      (λ sat. or_right (not (wanted q.set e.kind)) _ (bytes_satisfy e.clause (All-head (IsProper n) e es good) sat))
+      (or_cases (not (wanted q.set e.kind)) (list_any (is_true ss) e.clause) p.0))
+      (bytes_meet q es (All-rest (IsProper n) e es _ refl good) p.1)
 
-pub bytes_model : (q : Query) (ss : List Slot) → length ss ≡ q.table.n → All (IsProper q.table.n) q.table.entries → list_all (is_met q.set ss) q.table.entries ≡ true → Satisfies q.table q.set (map byte_of ss)
-bytes_model q ss wide good h = (bytes_assign q.table.n ss wide, bytes_meet q.table.n ss wide q.set q.table.entries good h)
+pub bytes_model : (q : Query) (ss : List Slot) → length ss ≡ q.table.n → All (IsProper q.table.n) q.table.entries → list_all (is_met q ss) q.table.entries ≡ true → Satisfies q.table q.set (map byte_of ss)
+bytes_model q ss wide good h = (bytes_assign q.table.n ss wide, bytes_meet q.table.n ss wide q q.table.entries good h)

@@ -13,6 +13,7 @@ use Rattle.finder_search.specs.ClauseStatus.{truth, is_so, is_true}
 use Rattle.finder_search.specs.Literals.{place, positive, negated, same}
 use Rattle.finder_search.specs.Occurrences.{occurs_in}
 use Rattle.finder_search.specs.Propagation.{is_met, is_quiet, is_several}
+use Rattle.finder_search.specs.Query.{Query}
 use Rattle.finder_search.specs.Trail.{slot_at, value_of, is_unset, is_unassigned, Unassigned}
 use Rattle.finder_search.specs.declared.trail.Slot.{Slot}
 use Rattle.finder_search.specs.declared.trail.Slot.TheVariants.{Unset}
@@ -81,15 +82,15 @@ module _ (n : ℕ) (ss us : List Slot) (u : ℤ) (s : Slot) (unassigned : Unassi
       (λ e. or_right (is_true us l) (list_any (is_true us) c) (clause_made c e))
       (or_cases (int_eq l u) (list_any (λ x. int_eq x u) c) h)
 
-  pub quiet_kept : (wish : ℕ) (e : Entry) → IsProper n e → is_quiet wish ss e ≡ true → occurs_in (negated u) e ≡ false → is_quiet wish us e ≡ true
-  quiet_kept wish e proper quiet without =
+  pub quiet_kept : (q : Query) (e : Entry) → IsProper n e → is_quiet q ss e ≡ true → occurs_in (negated u) e ≡ false → is_quiet q us e ≡ true
+  quiet_kept q e proper quiet without =
       ⊎_elim
-      (λ (sat : list_any (is_true us) e.clause ≡ true). or_left (is_met wish us e) _ (or_right (not (wanted wish e.kind)) (list_any (is_true us) e.clause) sat))
-      (λ as_was. ap₂ (λ x xs. (not (wanted wish e.kind) || x) || is_several xs) as_was.0 as_was.1 ∙ quiet)
+      (λ (sat : list_any (is_true us) e.clause ≡ true). or_left (is_met q us e) _ (or_right (not (wanted q.set e.kind)) (list_any (is_true us) e.clause) sat))
+      (λ as_was. ap₂ (λ x xs. (not (wanted q.set e.kind) || x) || is_several xs) as_was.0 as_was.1 ∙ quiet)
       (clause_kept e.clause proper without)
 
-  pub quiet_made : (wish : ℕ) (e : Entry) → occurs_in u e ≡ true → is_quiet wish us e ≡ true
-  quiet_made wish e h = or_left (is_met wish us e) _ (or_right (not (wanted wish e.kind)) (list_any (is_true us) e.clause) (clause_made e.clause h))
+  pub quiet_made : (q : Query) (e : Entry) → occurs_in u e ≡ true → is_quiet q us e ≡ true
+  quiet_made q e h = or_left (is_met q us e) _ (or_right (not (wanted q.set e.kind)) (list_any (is_true us) e.clause) (clause_made e.clause h))
 
 -- the literals without a value stand in the clause
 pub stands_of_open : (ss : List Slot) (c : List ℤ) (u : ℤ) → filter (is_unassigned ss) c ≡ u ∷ [] → list_any (λ x. int_eq x u) c ≡ true

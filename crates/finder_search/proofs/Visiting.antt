@@ -46,23 +46,23 @@ occurs_here set l (x ∷ es) zero e at = ap (λ y. wanted set y.kind && occurs_i
 occurs_here set l (x ∷ es) (suc k) e at = occurs_here set l es k e at
 
 -- a clause that stays quiet, or in which the opposite stands
-pub kept_quiet : (q : Query) (k : ℕ) (u : ℤ) (x : Entry) (ss us : List Slot) → All (IsProper q.table.n) q.table.entries → slice_get q.table.entries k ≡ Some x → Keeps q u ss us → is_quiet q.set ss x ≡ true
-    → losing q u k ≡ false → is_quiet q.set us x ≡ true
+pub kept_quiet : (q : Query) (k : ℕ) (u : ℤ) (x : Entry) (ss us : List Slot) → All (IsProper q.table.n) q.table.entries → slice_get q.table.entries k ≡ Some x → Keeps q u ss us → is_quiet q ss x ≡ true
+    → losing q u k ≡ false → is_quiet q us x ≡ true
 kept_quiet q k u x ss us proper at keeps was without =
     ⊎_elim
-    (λ (out : wanted q.set x.kind ≡ false). or_left (is_met q.set us x) _ (or_left (not (wanted q.set x.kind)) _ (ap not out)))
+    (λ (out : wanted q.set x.kind ≡ false). or_left (is_met q us x) _ (or_left (not (wanted q.set x.kind)) _ (ap not out)))
     (λ none. keeps x (listed_belongs q.table x k proper at).0 was none)
     (and_cases (wanted q.set x.kind) (occurs_in (negated u) x) (sym (occurs_here q.set (negated u) q.table.entries k x at) ∙ without))
 
 pub visited_last : (q : Query) (number level : ℕ) (u : ℤ) (e : Entry) (ss us ts : List Slot) (r : Result Unit Reason) → All (IsProper q.table.n) q.table.entries → slice_get q.table.entries number ≡ Some e
-    → Extends level ss us → Keeps q u ss us → is_quiet q.set us e ≡ true → Propagated q (losing q u) us r ts → Propagated q (one_clause number) ss r ts
+    → Extends level ss us → Keeps q u ss us → is_quiet q us e ≡ true → Propagated q (losing q u) us r ts → Propagated q (one_clause number) ss r ts
 visited_last q number level u e ss us ts (Err r) proper this extends keeps own propagated = subst (λ cs. Excludes q cs r) extends.decided propagated
 visited_last q number level u e ss us ts (Ok x) proper this extends keeps own propagated = λ pending quiet.
     propagated pending (λ k y at w.
     let p = or_parts (pending k) (losing q u k) w in
     ⊎_elim
     (λ (here : eqb number k ≡ true).
-    subst (λ z. is_quiet q.set us z ≡ true) (same_Some e y (sym this ∙ ap (slice_get q.table.entries) (eqb-true number k here) ∙ at)) own)
+    subst (λ z. is_quiet q us z ≡ true) (same_Some e y (sym this ∙ ap (slice_get q.table.entries) (eqb-true number k here) ∙ at)) own)
     (λ elsewhere. kept_quiet q k u y ss us proper at keeps (quiet k y at (or_from (pending k) (eqb number k) p.0 elsewhere)) p.1)
     (cases_Bool (eqb number k)))
 

@@ -34,21 +34,21 @@ IsAsked q e = Belongs q.table e × (wanted q.set e.kind ≡ true)
 
 -- ---- quiet clauses
 -- a clause that is wanted has a true literal
-abbrev pub is_met : ℕ → List Slot → Entry → Bool
-is_met set ss e = not (wanted set e.kind) || list_any (is_true ss) e.clause
+abbrev pub is_met : Query → List Slot → Entry → Bool
+is_met q ss e = not (wanted q.set e.kind) || list_any (is_true ss) e.clause
 
 abbrev pub is_several : List ℤ → Bool
 is_several ls = nat_lt 1 (length ls)
 
 -- a clause that is wanted is neither broken nor unit: it has a true literal, or several without a value
-abbrev pub is_quiet : ℕ → List Slot → Entry → Bool
-is_quiet set ss e = is_met set ss e || is_several (filter (is_unassigned ss) e.clause)
+abbrev pub is_quiet : Query → List Slot → Entry → Bool
+is_quiet q ss e = is_met q ss e || is_several (filter (is_unassigned ss) e.clause)
 
 -- each clause is quiet but those with a number that is pending
 abbrev pub Quiet : Query → (ℕ → Bool) → List Slot → Type 0
 Quiet q pending ss =
     (k : ℕ) → (e : Entry) → slice_get q.table.entries k ≡ Some e → pending k ≡ false
-    → is_quiet q.set ss e ≡ true
+    → is_quiet q ss e ≡ true
 
 abbrev pub no_clause : ℕ → Bool
 no_clause k = false
@@ -67,8 +67,8 @@ losing q l = occurs q (negated l)
 -- clauses stay quiet from ss to ts but those that lose the opposite of the literal
 abbrev pub Keeps : Query → ℤ → List Slot → List Slot → Type 0
 Keeps q l ss ts =
-    (e : Entry) → IsProper q.table.n e → is_quiet q.set ss e ≡ true → occurs_in (negated l) e ≡ false
-    → is_quiet q.set ts e ≡ true
+    (e : Entry) → IsProper q.table.n e → is_quiet q ss e ≡ true → occurs_in (negated l) e ≡ false
+    → is_quiet q ts e ≡ true
 
 -- from ss to ts the last literal of a unit clause was made true
 pub record ImpliesLast (q : Query) (level : ℕ) (ss ts : List Slot) (e : Entry) (l : ℤ) : Type 0 where
@@ -78,7 +78,7 @@ pub record ImpliesLast (q : Query) (level : ℕ) (ss ts : List Slot) (e : Entry)
   pub proper : bad_literal q.table.n l ≡ false
   pub keeps : Keeps q l ss ts
   -- the clause itself has a true literal now
-  pub own : is_quiet q.set ts e ≡ true
+  pub own : is_quiet q ts e ≡ true
 
 -- What comes of visiting clauses: they are quiet then, and so are those that were before,
 -- unless it is found that there is no model.

@@ -33,9 +33,9 @@ with_decision ss l = slice_set (decisions ss) (place l) (Some (positive l))
 
 -- ---- what to decide next
 -- a literal without a value, where there is one in a clause that is wanted and has no true literal
-abbrev pub OpenIn : ℕ → List Slot → Entry → Option ℤ → Type 0
-OpenIn set ss e None = is_quiet set ss e ≡ true → is_met set ss e ≡ true
-OpenIn set ss e (Some l) = Unassigned ss l × (is_met set ss e ≡ false)
+abbrev pub OpenIn : Query → List Slot → Entry → Option ℤ → Type 0
+OpenIn q ss e None = is_quiet q ss e ≡ true → is_met q ss e ≡ true
+OpenIn q ss e (Some l) = Unassigned ss l × (is_met q ss e ≡ false)
 
 -- a literal without a value, or none, as the values are a model
 abbrev pub Next : Query → List Slot → Option ℤ → Type 0

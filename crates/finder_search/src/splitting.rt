@@ -210,7 +210,7 @@ impl Question<'_> {
     fn open_literal(&self, clause: Clause<'_>, trail: &[Slot]) -> Option<i32>
         requires proper { IsProper self.now.tables.now.n (as_entry clause) }
         requires wide { length trail.now ≡ self.now.tables.now.n }
-        ensures { OpenIn self.now.set trail.now (as_entry clause.entry) result }
+        ensures { OpenIn (query self.now) trail.now (as_entry clause.entry) result }
     {
         if !clause.kind.is_wanted(self.set) {
             return None;

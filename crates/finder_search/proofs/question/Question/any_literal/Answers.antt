@@ -15,9 +15,9 @@ loop-clause-preserved c =
     let rest = c.next.new.self in
     let so_far = c.loop-clause.invariant in (
       All-rest (IsProper q.table.n) e rest c.loop-clause.clause-iterator c.in-Some.ensures.steps so_far.0,
-      All-rest (λ x. is_quiet q.set ss x ≡ true) e rest c.loop-clause.clause-iterator c.in-Some.ensures.steps so_far.1,
+      All-rest (λ x. is_quiet q ss x ≡ true) e rest c.loop-clause.clause-iterator c.in-Some.ensures.steps so_far.1,
       met_more q ss e rest c.open_literal.result c.in_default.not-Some
-          (All-head (λ x. is_quiet q.set ss x ≡ true) e rest (subst (AllQuiet q.set ss) c.in-Some.ensures.steps so_far.1)) c.open_literal.ensures
+          (All-head (λ x. is_quiet q ss x ≡ true) e rest (subst (AllQuiet q ss) c.in-Some.ensures.steps so_far.1)) c.open_literal.ensures
           (subst (MetBefore q ss) c.in-Some.ensures.steps so_far.2),
     )
 

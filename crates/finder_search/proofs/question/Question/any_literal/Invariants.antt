@@ -8,5 +8,5 @@ use Rattle.finder_search.proofs.question.Question.any_literal.Given as goal
 abbrev pub invariant-loop-clause : goal.invariant-loop-clause
 invariant-loop-clause l =
     All (IsProper l.self.tables.now.n) l.clause-iterator
-    × AllQuiet l.self.set l.trail l.clause-iterator
+    × AllQuiet (query l.self) l.trail l.clause-iterator
     × MetBefore (query l.self) l.trail l.clause-iterator

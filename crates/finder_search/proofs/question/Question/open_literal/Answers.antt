@@ -1,6 +1,7 @@
 use Rattle.std.proofs.Common.{◌≡◌, true, sym, ◌∙◌, rules}
 use Rattle.clause_tables.specs.Entries.{as_entry}
 use Rattle.clause_tables.specs.Wanted.{wanted}
+use Rattle.finder_search.specs.Question.{query}
 use Rattle.finder_search.proofs.Implying.{open_unassigned, open_unmet}
 use Rattle.finder_search.proofs.question.Question.open_literal.Goals as goal
 
@@ -10,4 +11,4 @@ returns-in-Open c =
     let stands = sym c.status_of.ensures ∙ c.in-Open.is in
     let unassigned = open_unassigned c.args.self.now.tables.now.n c.args.trail.now e c.in-Open.literal c.requires.wide c.requires.proper stands in
     let wish : wanted c.args.self.now.set c.args.clause.kind ≡ true = search rules in
-    ((search (rules, unassigned), search (rules, unassigned)), open_unmet c.args.self.now.set c.args.trail.now e c.in-Open.literal wish stands)
+    ((search (rules, unassigned), search (rules, unassigned)), open_unmet (query c.args.self.now) c.args.trail.now e c.in-Open.literal wish stands)
