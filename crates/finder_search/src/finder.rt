@@ -37,7 +37,7 @@ impl<'a> Search<'a> {
     /// A finder that admits every assignment. The lengths of the tables are its places.
     /// With more than `MOST_VARIABLES` variables it has no variables and no places.
     pub fn new(records: &'a mut [ClauseRecord], literals: &'a mut [i32], n: usize) -> Self
-        ensures { finder_meaning result ≡ made_in (room MOST_VARIABLES n) (length records.old) (length literals.old) }
+        ensures { finder_meaning result ≡ made_in (room MOST_VARIABLES n) records.old literals.old }
     {
         Search {
             tables: Tables::new(records, literals, n, MOST_VARIABLES),
