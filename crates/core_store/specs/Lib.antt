@@ -1,2 +1,2 @@
-pub mod Stores
-pub mod Trying
+pub mod Store
+pub mod BetterCovers

@@ -1,16 +1,16 @@
 //! What a cover maker keeps, with the rules by which weights and cores are added.
-ghost use Rattle.std.specs.Prelude.{◌≡◌, ℕ, ◌≤◌, not, min, if◌then◌else◌, length, Some, IfOk, IsTrue, ◌++◌, ◌∷◌, []};
+ghost use Rattle.std.specs.Prelude.{◌≡◌, ℕ, ◌≤◌, not, min, if◌then◌else◌, length, Some, IfOk, IsTrue};
 ghost use Rattle.std.specs.List.{list_all};
 ghost use Rattle.std.specs.Result.{result_err};
 ghost use Rattle.std.specs.Vec.{vec_len, vec_capacity};
 ghost use Rattle.terms.specs.Masks.{subset, intersect};
 ghost use Rattle.terms.specs.Earliest.{unless_refused};
-ghost use Rattle.weights.specs.Costs.{cost, total};
+ghost use Rattle.weights.specs.Costs.{cost};
 ghost use Rattle.weights.specs.Kinds.{Totals};
 ghost use Rattle.makers.specs.Meanings.{fresh, with_weight, with_core, has_part, staying, Limited};
 ghost use Rattle.makers.specs.Covers.{is_cover, AlsoMeets};
 ghost use Rattle.makers.specs.Refused.{weight_refused, no_core_place, core_refused, cost_refused};
-ghost use Rattle.core_store.specs.Trying.{cheaper_of, NoDearer, Smaller, Without};
+ghost use Rattle.core_store.specs.BetterCovers.{cheaper_of, NoDearer, Smaller, Spared};
 
 use std::alloc::{AllocError, Global};
 use std::marker::Model;
@@ -33,7 +33,7 @@ impl<W: WeightKind> Model for Store<W> {
 
     ghost Value = { MakerMeaning W };
 
-    ghost use Rattle.core_store.specs.Stores.{meaning_of, IsValid};
+    ghost use Rattle.core_store.specs.Store.{meaning_of, IsValid};
 
     ghost view = { meaning_of };
 
@@ -41,7 +41,9 @@ impl<W: WeightKind> Model for Store<W> {
 }
 
 impl<W: WeightKind> Store<W> {
-    /// A store without weights and cores, with so many soft places, 64 at most. All its memory is reserved here.
+    ghost use Rattle.core_store.specs.Store.{total_with};
+
+    /// A store without weights and cores, with so many soft places, `SOFT_PLACES` at most. All its memory is reserved here.
     pub fn new(alloc: Global, places: usize) -> Result<Self, AllocError>
         ensures meaning { IfOk result (λ store. store ≡ fresh (min places SOFT_PLACES)) }
         ensures limited { IfOk result (Limited W.kind) }
@@ -69,7 +71,7 @@ impl<W: WeightKind> Store<W> {
         self.cores.len()
     }
 
-    /// The weights, each at the place of its number.
+    /// The weights, each at the index of its number.
     pub fn weights(&self) -> &[W]
         ensures { result.now ≡ self.now.weights }
     {
@@ -105,7 +107,7 @@ impl<W: WeightKind> Store<W> {
     /// The total of all weights with one more, unless that one is refused.
     fn checked_total(&self, weight: W) -> Result<W, Refusal>
         ensures refusal { result_err result ≡ weight_refused W.kind self.now weight }
-        ensures total { IfOk result (λ w. Totals W.kind (total W.kind (self.now.weights ++ weight ∷ [])) (Some w)) }
+        ensures total { IfOk result (λ w. Totals W.kind (total_with W.kind self.now weight) (Some w)) }
     {
         if weight <= W::zero() {
             return Err(Refusal::ZeroWeight);
@@ -119,7 +121,7 @@ impl<W: WeightKind> Store<W> {
     /// The total of all weights with one more, if it can be held.
     #[tactic(auto, using(weights::proofs::TotalLaws::total_push))]
     fn total_with(&self, weight: W) -> Option<W>
-        ensures { Totals W.kind (total W.kind (self.now.weights ++ weight ∷ [])) result }
+        ensures { Totals W.kind (total_with W.kind self.now weight) result }
     {
         self.total.sum(weight)
     }
@@ -212,7 +214,7 @@ impl<W: WeightKind> Store<W> {
     /// The cover without the number, where the rest is one; otherwise the cover.
     #[tactic(auto, using(makers::proofs::CoverLaws::needs, terms::proofs::MaskLaws::subset_members))]
     pub fn spare(&self, cover: SoftSet, number: usize) -> SoftSet
-        ensures value { (rest : ℕ) → Without cover number rest → result ≡ (if is_cover self.now rest then rest else cover) }
+        ensures value { Spared self.now cover number result }
         ensures smaller { IsTrue (is_cover self.now cover) → Smaller self.now cover number result }
     {
         self.cover_or(cover.remove(number), cover)

@@ -1,19 +1,21 @@
 //! The count-through maker: it finds a least cover by trying every set.
 ghost use Rattle.std.specs.Prelude.{◌≡◌, ◌+◌, ◌≤◌, length, IfOk, true};
+ghost use Rattle.terms.specs.declared.limits.TheConstants.{MOST_COUNTED};
 ghost use Rattle.makers.specs.Covers.{is_cover, Minimal};
 ghost use Rattle.makers.specs.Meanings.{fresh, Limited};
 
+use core_store::Store;
 use makers::CoverMaker;
 use std::alloc::{AllocError, Global};
-use core_store::Store;
+use terms::limits::MOST_COUNTED;
 use terms::{Refusal, SoftSet};
 use weights::WeightKind;
 
-/// A cover maker for up to 16 weights.
+/// A cover maker for up to `MOST_COUNTED` weights.
 #[derive(Debug, Drop)]
 pub struct CountThroughMaker<W: WeightKind> {
     store: Store<W>,
-    ghost few: { length store.weights + store.free_softs ≤ 16 },
+    ghost few: { length store.weights + store.free_softs ≤ MOST_COUNTED },
     ghost limited: { Limited W.kind store },
 }
 
@@ -22,10 +24,10 @@ impl<W: WeightKind> CountThroughMaker<W> {
 
     /// A maker without weights and cores. All its memory is reserved here.
     pub fn new(alloc: Global) -> Result<Self, AllocError>
-        ensures { IfOk result (λ maker. maker_meaning maker ≡ fresh 16) }
+        ensures { IfOk result (λ maker. maker_meaning maker ≡ fresh MOST_COUNTED) }
     {
         Ok(CountThroughMaker {
-            store: Store::new(alloc, 16)?,
+            store: Store::new(alloc, MOST_COUNTED)?,
         })
     }
 }
