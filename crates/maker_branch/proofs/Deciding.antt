@@ -12,14 +12,14 @@ use Rattle.weights.specs.Kinds.{Kind, Laws}
 use Rattle.weights.proofs.SumLaws.{le_self, cost_more}
 use Rattle.makers.specs.Meanings.{MakerMeaning, Limited}
 use Rattle.makers.specs.Covers.{is_cover, Least}
-use Rattle.core_store.specs.Trying.{NoDearer}
+use Rattle.core_store.specs.BetterCovers.{NoDearer}
 use Rattle.maker_branch.specs.Branches.{in_branch, Best}
 use Rattle.maker_branch.specs.Loads.{Bears}
 use Rattle.maker_branch.specs.Scores.{is_left}
-use Rattle.maker_branch.proofs.Branching.{in_parts, in_from, first_of, second_of, both_from, not_so}
-use Rattle.maker_branch.proofs.Greedy.{open_number}
+use Rattle.maker_branch.proofs.BranchLaws.{in_parts, in_from, first_of, second_of, both_from, not_so}
+use Rattle.maker_branch.proofs.GreedyLaws.{open_number}
 use Rattle.maker_branch.proofs.Members.{none_within, none_apart, within_with, apart_with}
-use Rattle.maker_branch.proofs.LoadLaws.{floor_under}
+use Rattle.maker_branch.proofs.LoadLaws.{bound_under}
 
 below_part : (n x y : ℕ) → below n y ≡ true → subset x y ≡ true → below n x ≡ true
 below_part n x y b s = grind (arith, nat_tests, b, s, below_members n x, below_members n y, subset_members x y)
@@ -40,10 +40,10 @@ module _ {W : Type 0} (K : Kind W) (laws : Laws K) (m : MakerMeaning W) where
     pub best_alone : is_cover m best ≡ true → ((set : ℕ) → in_branch m chosen out set ≡ false) → Best K m chosen out best best
     best_alone c none = best_kept c (λ set h. absurd (both_ways (in_branch m chosen out set) (none set) h))
 
-    pub best_floor : (loads : List W) (total ceiling : W) → is_cover m best ≡ true → Bears K m.weights (in_branch m chosen out) loads total → K.value ceiling ≡ cost K m.weights best
-        → K.le (K.value ceiling) (K.value total) ≡ true → Best K m chosen out best best
-    best_floor loads total ceiling c b e l =
-        best_kept c (λ set h. subst (λ v. K.le v (cost K m.weights set) ≡ true) e (floor_under K laws m.weights loads total (in_branch m chosen out) set (K.value ceiling) b h l))
+    pub best_bound : (loads : List W) (total best_cost : W) → is_cover m best ≡ true → Bears K m.weights (in_branch m chosen out) loads total → K.value best_cost ≡ cost K m.weights best
+        → K.le (K.value best_cost) (K.value total) ≡ true → Best K m chosen out best best
+    best_bound loads total best_cost c b e l =
+        best_kept c (λ set h. subst (λ v. K.le v (cost K m.weights set) ≡ true) e (bound_under K laws m.weights loads total (in_branch m chosen out) set (K.value best_cost) b h l))
 
     -- ---- the chosen numbers
     pub best_chosen : (r : ℕ) → is_cover m best ≡ true → is_cover m chosen ≡ true → NoDearer K m chosen best r → Best K m chosen out best r
@@ -62,10 +62,10 @@ module _ {W : Type 0} (K : Kind W) (laws : Laws K) (m : MakerMeaning W) where
       than_others = λ set h. b.than_others set (in_from m more out set (in_parts m chosen out set h).0 (f set h) (in_parts m chosen out set h).2);
     }
 
-    pub best_wider : (wider r : ℕ) (ceiling : W) → K.value ceiling ≡ cost K m.weights best
-        → ((set : ℕ) → in_branch m chosen out set ≡ true → intersect wider set ≡ true → K.le (K.value ceiling) (cost K m.weights set) ≡ true)
+    pub best_wider : (wider r : ℕ) (best_cost : W) → K.value best_cost ≡ cost K m.weights best
+        → ((set : ℕ) → in_branch m chosen out set ≡ true → intersect wider set ≡ true → K.le (K.value best_cost) (cost K m.weights set) ≡ true)
         → Best K m chosen wider best r → Best K m chosen out best r
-    best_wider wider r ceiling e dear b = record {
+    best_wider wider r best_cost e dear b = record {
       cover = b.cover;
       than_best = b.than_best;
       than_others = λ set h. ⊎_elim

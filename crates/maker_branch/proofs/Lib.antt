@@ -1,8 +1,8 @@
-pub mod Branching
+pub mod BranchLaws
 pub mod Deciding
 pub mod LoadLaws
 pub mod Members
 pub mod Raising
 pub mod Multiplying
-pub mod Greedy
+pub mod GreedyLaws
 pub mod Thinning

@@ -7,10 +7,10 @@ use Rattle.weights.proofs.SumLaws.{le_self, more_both, pick_more}
 use Rattle.maker_branch.specs.Loads.{value_at, Bears}
 
 module _ {W : Type 0} (K : Kind W) where
-  pub value_at_place : (xs : List W) (k : ℕ) (w : W) → k < length xs → w ≡ get_or xs k w → value_at K xs k ≡ K.value w
-  value_at_place [] k w l h = absurd (omega arith)
-  value_at_place (x ∷ xs) zero w l h = ap K.value (sym h)
-  value_at_place (x ∷ xs) (suc k) w l h = value_at_place xs k w (omega arith) h
+  pub value_at_index : (xs : List W) (k : ℕ) (w : W) → k < length xs → w ≡ get_or xs k w → value_at K xs k ≡ K.value w
+  value_at_index [] k w l h = absurd (omega arith)
+  value_at_index (x ∷ xs) zero w l h = ap K.value (sym h)
+  value_at_index (x ∷ xs) (suc k) w l h = value_at_index xs k w (omega arith) h
 
   pub value_at_none : (n k : ℕ) (z : W) → K.value z ≡ K.zero → value_at K (replicate n z) k ≡ K.zero
   value_at_none zero k z h = refl
@@ -79,8 +79,8 @@ module _ {W : Type 0} (K : Kind W) (laws : Laws K) where
   bears_fewer weights loads total these those f b = record { within = b.within; enough = λ set t. b.enough set (f set t) }
 
   -- the total is a floor under the costs of these sets
-  pub floor_under : (weights loads : List W) (total : W) (these : ℕ → Bool) (set : ℕ) (x : K.V) → Bears K weights these loads total → these set ≡ true → K.le x (K.value total) ≡ true
+  pub bound_under : (weights loads : List W) (total : W) (these : ℕ → Bool) (set : ℕ) (x : K.V) → Bears K weights these loads total → these set ≡ true → K.le x (K.value total) ≡ true
       → K.le x (cost K weights set) ≡ true
-  floor_under weights loads total these set x b t l =
+  bound_under weights loads total these set x b t l =
       laws.trans x (K.value total) (cost K weights set) l
       (laws.trans (K.value total) (cost K loads set) (cost K weights set) (b.enough set t) (cost_within loads weights (member set) 0 b.within))

@@ -6,7 +6,7 @@ use Rattle.maker_branch.proofs.Members.{part_at_most}
 use Rattle.terms.proofs.MaskLaws.{subset_members, subset_trans}
 use Rattle.makers.specs.Meanings.{MakerMeaning}
 use Rattle.makers.specs.Covers.{Needed}
-use Rattle.core_store.specs.Trying.{Smaller}
+use Rattle.core_store.specs.BetterCovers.{Smaller}
 
 -- a set is greater than what it is without a member
 pub fewer : (rest set k : ℕ) → ((j : ℕ) → member rest j ≡ (member set j && not (eqb k j))) → member set k ≡ true → rest < set

@@ -3,9 +3,9 @@ ghost use Rattle.std.specs.Prelude.{◌≡◌, IfOk, true};
 ghost use Rattle.makers.specs.Covers.{is_cover, Minimal};
 ghost use Rattle.makers.specs.Meanings.{fresh, Limited};
 
-use crate::floors::Floor;
+use crate::lower_bounds::LowerBound;
 use crate::multiples::times;
-use crate::quick::quick_cover;
+use crate::greedy::quick_cover;
 use makers::CoverMaker;
 use std::alloc::{AllocError, Global};
 use core_store::Store;
@@ -17,8 +17,8 @@ use weights::WeightKind;
 #[derive(Debug, Drop)]
 pub struct BranchAndBoundMaker<W: WeightKind> {
     pub(crate) store: Store<W>,
-    /// A floor without loads, which knows the lightest weight. It shows too that a floor of this kind has a size.
-    pub(crate) blank: Floor<W>,
+    /// A bound without loads, which knows the lightest weight. It shows too that a floor of this kind has a size.
+    pub(crate) blank: LowerBound<W>,
     /// The numbers of which sixteen weights together are at least as heavy as the heaviest one.
     pub(crate) heavy: SoftSet,
     ghost limited: { Limited W.kind store },
@@ -33,7 +33,7 @@ impl<W: WeightKind> BranchAndBoundMaker<W> {
     {
         Ok(BranchAndBoundMaker {
             store: Store::new(alloc, SOFT_PLACES)?,
-            blank: Floor::new(W::zero()),
+            blank: LowerBound::new(W::zero()),
             heavy: SoftSet::empty(),
         })
     }
@@ -51,7 +51,7 @@ impl<W: WeightKind> BranchAndBoundMaker<W> {
                 heavy = heavy.insert(number);
             }
         }
-        self.blank = Floor::new(lightest);
+        self.blank = LowerBound::new(lightest);
         self.heavy = heavy;
     }
 }

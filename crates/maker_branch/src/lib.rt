@@ -2,12 +2,12 @@
 #![tactic(auto)]
 
 mod branch_and_bound;
-mod floors;
+mod lower_bounds;
 mod loads;
 mod multiples;
 mod narrowing;
 mod order;
-mod quick;
+mod greedy;
 mod scores;
 
 pub use branch_and_bound::BranchAndBoundMaker;
@@ -17,7 +17,7 @@ mod tests {
     // Covers worked out by hand, and the edges of what the maker takes.
     use super::*;
     use makers::CoverMaker;
-    use floors::Floor;
+    use lower_bounds::LowerBound;
     use loads::Loads;
     use order::Order;
     use scores::Scores;
@@ -158,8 +158,8 @@ mod tests {
         let scores = Scores::of(&maker.store, chosen, out, |_| 16);
         let heavy = SoftSet::of(&[0, 1, 2, 3, 4, 6]);
         let mut order = Order::of(&maker.store, chosen, out, &scores, heavy);
-        for place in [4, 1, 2, 3] {
-            assert_eq!(rt; order.take_first(), Some(place));
+        for index in [4, 1, 2, 3] {
+            assert_eq!(rt; order.take_first(), Some(index));
         }
         assert_eq!(rt; order.take_first(), None);
         Ok(())
@@ -190,7 +190,7 @@ mod tests {
     #[test]
     fn a_number_seems_dear_by_what_it_can_still_bear(rt: HostRuntime) -> Result<(), Fail> {
         let (maker, loads) = loaded(rt.alloc())?;
-        let seems = |number, enough| loads.seems_dear(&maker.store, number, Plain::new(enough));
+        let seems = |number, best_cost| loads.seems_dear(&maker.store, number, Plain::new(best_cost));
         assert!(rt; seems(1, 3) && !seems(1, 4));
         assert!(rt; seems(0, 6) && !seems(0, 7));
         Ok(())
@@ -206,23 +206,23 @@ mod tests {
         Ok(())
     }
 
-    /// The floor of all covers, which is enough where it reaches this.
-    fn floor_of(maker: &BranchAndBoundMaker<Plain>, enough: Plain) -> Floor<Plain> {
+    /// The bound of all covers, which is enough where it reaches this.
+    fn bound_of(maker: &BranchAndBoundMaker<Plain>, best_cost: Plain) -> LowerBound<Plain> {
         let (store, none) = (&maker.store, SoftSet::empty());
         let base = Loads::of_chosen(store, none, maker.blank.base.lightest);
         let scores = Scores::of(store, none, none, |_| 1);
         let order = Order::of(store, none, none, &scores, none);
-        Floor::of(store, none, none, base, order, enough)
+        LowerBound::of(store, none, none, base, order, best_cost)
     }
 
     // The first core bears 2 and the other 4. With 1 the covers cost 3, and what the other core bears.
     #[test]
     fn a_number_is_dear_by_the_raises_of_the_other_cores(rt: HostRuntime) -> Result<(), Fail> {
         let maker = maker(rt.alloc(), &[2, 3, 4, 5], &[&[0, 1], &[2, 3]])?;
-        let floor = floor_of(&maker, Plain::new(9));
-        assert!(rt; floor.loads.reaches(Plain::new(6)) && !floor.loads.reaches(Plain::new(7)));
+        let bound = bound_of(&maker, Plain::new(9));
+        assert!(rt; bound.loads.reaches(Plain::new(6)) && !bound.loads.reaches(Plain::new(7)));
         let none = SoftSet::empty();
-        let dear = |enough| floor.is_dear_with(&maker.store, none, 1, Plain::new(enough));
+        let dear = |best_cost| bound.is_dear_with(&maker.store, none, 1, Plain::new(best_cost));
         assert!(rt; dear(7) && !dear(8));
         Ok(())
     }

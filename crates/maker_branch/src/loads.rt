@@ -63,10 +63,10 @@ impl<W: WeightKind> Loads<W> {
     }
 
     /// Whether the total is what is enough, or more.
-    pub(crate) fn reaches(&self, enough: W) -> bool
-        ensures { result ≡ W.kind.le (W.kind.value enough) (W.kind.value self.now.total) }
+    pub(crate) fn reaches(&self, best_cost: W) -> bool
+        ensures { result ≡ W.kind.le (W.kind.value best_cost) (W.kind.value self.now.total) }
     {
-        enough <= self.total
+        best_cost <= self.total
     }
 
     /// Whether no number of the set is full.
@@ -103,13 +103,13 @@ impl<W: WeightKind> Loads<W> {
     }
 
     /// Whether it seems that covers with this number cost what is enough: the total and what the number can still bear do.
-    pub(crate) fn seems_dear(&self, store: &Store<W>, number: usize, enough: W) -> bool {
+    pub(crate) fn seems_dear(&self, store: &Store<W>, number: usize, best_cost: W) -> bool {
         let (Some(load), Some(weight)) = (self.loads.get(number), store.weights().get(number))
         else {
             return false;
         };
-        match (self.total.sum(*weight), enough.sum(*load)) {
-            (Some(total), Some(enough)) => enough <= total,
+        match (self.total.sum(*weight), best_cost.sum(*load)) {
+            (Some(total), Some(best_cost)) => best_cost <= total,
             _ => false,
         }
     }
@@ -158,7 +158,7 @@ impl<W: WeightKind> Loads<W> {
     }
 
     /// The load of the number with the amount more, if it can bear that.
-    #[tactic(auto, using(crate::proofs::LoadLaws::value_at_place))]
+    #[tactic(auto, using(crate::proofs::LoadLaws::value_at_index))]
     fn raised(&self, store: &Store<W>, number: usize, amount: W) -> Option<W>
         ensures fits { IfSome result (λ _. number < length self.now.loads) }
         ensures sum { IfSome result (λ load. W.kind.value load ≡ W.kind.plus (value_at W.kind self.now.loads number) (W.kind.value amount)) }

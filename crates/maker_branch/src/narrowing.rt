@@ -8,7 +8,7 @@ ghost use Rattle.maker_branch.specs.Loads.{Bears};
 ghost use Rattle.maker_branch.specs.Scores.{is_left};
 
 use crate::branch_and_bound::BranchAndBoundMaker;
-use crate::floors::Floor;
+use crate::lower_bounds::LowerBound;
 use crate::loads::Loads;
 use crate::order::Order;
 use crate::scores::Scores;
@@ -32,7 +32,7 @@ impl<W: WeightKind> BranchAndBoundMaker<W> {
         }
     }
 
-    /// The same, once the forced numbers are chosen. The branch is given up where its floor reaches what the best in hand costs.
+    /// The same, once the forced numbers are chosen. The branch is given up where its bound reaches what the best in hand costs.
     #[cycle(narrowing)]
     fn cut(&self, chosen: SoftSet, out: SoftSet, best: SoftSet) -> SoftSet
         requires chosen { IsTrue (below SOFT_PLACES chosen) }
@@ -40,9 +40,9 @@ impl<W: WeightKind> BranchAndBoundMaker<W> {
         requires cover { is_cover self.now.store best ≡ true }
         ensures { Best W.kind self.now.store chosen out best result }
     {
-        let ceiling = self.store.sum(best);
+        let best_cost = self.store.sum(best);
         let base = Loads::of_chosen(&self.store, chosen, self.blank.base.lightest);
-        if base.reaches(ceiling) {
+        if base.reaches(best_cost) {
             return best;
         }
         if self.store.is_cover(chosen) {
@@ -50,11 +50,11 @@ impl<W: WeightKind> BranchAndBoundMaker<W> {
         }
         let scores = Scores::of(&self.store, chosen, out, worth);
         let order = Order::of(&self.store, chosen, out, &scores, self.heavy);
-        let floor = Floor::of(&self.store, chosen, out, base, order, ceiling);
-        if floor.loads.reaches(ceiling) {
+        let bound = LowerBound::of(&self.store, chosen, out, base, order, best_cost);
+        if bound.loads.reaches(best_cost) {
             return best;
         }
-        let wider = self.with_dear(chosen, out, &floor, scores.left, ceiling);
+        let wider = self.with_dear(chosen, out, &bound, scores.left, best_cost);
         if !wider.is_subset(out) {
             return self.narrow(chosen, wider, best);
         }
@@ -93,26 +93,26 @@ impl<W: WeightKind> BranchAndBoundMaker<W> {
         Some(forced)
     }
 
-    /// The numbers that were left out, and numbers left in cores with which no cover of the branch costs less than the ceiling.
+    /// The numbers that were left out, and numbers left in cores with which no cover of the branch costs less than the best_cost.
     fn with_dear(
         &self,
         chosen: SoftSet,
         out: SoftSet,
-        floor: &Floor<W>,
+        bound: &LowerBound<W>,
         left: SoftSet,
-        ceiling: W,
+        best_cost: W,
     ) -> SoftSet
         requires out { IsTrue (below SOFT_PLACES out) }
-        requires base { Bears W.kind self.now.store.weights (in_branch self.now.store chosen out) floor.now.base.loads floor.now.base.total }
+        requires base { Bears W.kind self.now.store.weights (in_branch self.now.store chosen out) bound.now.base.loads bound.now.base.total }
         ensures more { subset out result ≡ true }
         ensures fits { IsTrue (below SOFT_PLACES result) }
         ensures dear { (set : ℕ) → in_branch self.now.store chosen out set ≡ true → intersect result set ≡ true
-            → W.kind.le (W.kind.value ceiling) (cost W.kind self.now.store.weights set) ≡ true }
+            → W.kind.le (W.kind.value best_cost) (cost W.kind self.now.store.weights set) ≡ true }
     {
         let mut wider = out;
         for number in left.members() {
-            if floor.loads.seems_dear(&self.store, number, ceiling)
-                && floor.is_dear_with(&self.store, wider, number, ceiling)
+            if bound.loads.seems_dear(&self.store, number, best_cost)
+                && bound.is_dear_with(&self.store, wider, number, best_cost)
             {
                 wider = wider.insert(number);
             }
@@ -122,7 +122,7 @@ impl<W: WeightKind> BranchAndBoundMaker<W> {
 }
 
 /// The chosen numbers, and one more where the core has only that one left; none where it has none left.
-#[tactic(auto, using(crate::proofs::Branching::last_forced, crate::proofs::Branching::none_left))]
+#[tactic(auto, using(crate::proofs::BranchLaws::last_forced, crate::proofs::BranchLaws::none_left))]
 fn with_last(chosen: SoftSet, out: SoftSet, core: SoftSet) -> Option<SoftSet>
     ensures none { IsNone result → (set : ℕ) → meets_in chosen out core set ≡ false }
     ensures more { IfSome result (λ more. subset chosen more ≡ true) }

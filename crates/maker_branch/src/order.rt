@@ -3,25 +3,29 @@ ghost use Rattle.std.specs.Prelude.{◌<◌, IfSome};
 
 use crate::scores::Scores;
 use core_store::Store;
+use terms::limits::CORE_PLACES;
 use terms::SoftSet;
 use weights::WeightKind;
 
+/// How many keys there are for cores with only heavy numbers left, and for the others: tuned on bench, no promise.
+const LEVEL_KEYS: usize = 128;
+
+/// How far the sums of scores of two keys are apart: tuned on bench, no promise.
+const KEY_STEP: u32 = 16;
+
 /// How many keys there are to order by.
-const KEYS: usize = 256;
+const KEYS: usize = 2 * LEVEL_KEYS;
 
-/// How many cores there are at most.
-pub(crate) const CORES: usize = 512;
+/// No core has this index.
+const NO_INDEX: u16 = CORE_PLACES as u16;
 
-/// No core has this place.
-const NO_PLACE: u16 = CORES as u16;
-
-/// The places of cores in lists, one for each key; lower keys come first.
+/// The indices of cores in lists, one for each key; lower keys come first.
 #[derive(Clone, Copy, Debug)]
 pub(crate) struct Order {
-    /// The first place of each list.
+    /// The first index of each list.
     heads: [u16; KEYS],
-    /// The place that comes after each place in its list.
-    next: [u16; CORES],
+    /// The index that comes after each index in its list.
+    next: [u16; CORE_PLACES],
     /// The lists before this one are empty.
     key: usize,
 }
@@ -37,29 +41,29 @@ impl Order {
         heavy: SoftSet,
     ) -> Order {
         let mut order = Order {
-            heads: [NO_PLACE; KEYS],
-            next: [NO_PLACE; CORES],
+            heads: [NO_INDEX; KEYS],
+            next: [NO_INDEX; CORE_PLACES],
             key: 0,
         };
-        for (place, core) in store.cores().iter().enumerate() {
+        for (index, core) in store.cores().iter().enumerate() {
             if !core.intersects(chosen) {
-                order.push(key(core.minus(out), scores, heavy), place);
+                order.push(key(core.minus(out), scores, heavy), index);
             }
         }
         order
     }
 
-    /// Puts the place first in the list of the key.
-    fn push(&mut self, key: usize, place: usize) {
-        if let (Some(head), Some(next)) = (self.heads.get_mut(key), self.next.get_mut(place)) {
+    /// Puts the index first in the list of the key.
+    fn push(&mut self, key: usize, index: usize) {
+        if let (Some(head), Some(next)) = (self.heads.get_mut(key), self.next.get_mut(index)) {
             *next = *head;
-            *head = place as u16;
+            *head = index as u16;
         }
     }
 
-    /// Takes the place that comes first.
+    /// Takes the index that comes first.
     pub(crate) fn take_first(&mut self) -> Option<usize>
-        ensures { IfSome result (λ place. place < 512) }
+        ensures { IfSome result (λ index. index < CORE_PLACES) }
     {
         for key in self.key..KEYS {
             let first = usize::from(self.heads[key]);
@@ -73,18 +77,18 @@ impl Order {
     }
 }
 
-/// The key of what is left of a core: sums of scores count in steps of sixteen, and up to 2,032.
+/// The key of what is left of a core: the sum of its scores in steps, up to the last key of its kind.
 fn key(rest: SoftSet, scores: &Scores, heavy: SoftSet) -> usize
-    ensures { result < 256 }
+    ensures { result < KEYS }
 {
     let mut sum = 0_u32;
     for number in rest.members() {
         sum = sum.saturating_add(scores.of_number(number));
     }
-    let low = (sum / 16).min(127) as usize;
+    let low = ((sum / KEY_STEP) as usize).min(LEVEL_KEYS - 1);
     if rest.is_subset(heavy) {
         low
     } else {
-        128 + low
+        LEVEL_KEYS + low
     }
 }

@@ -1,5 +1,5 @@
 use Rattle.std.proofs.Common.{refl}
-use Rattle.maker_branch.proofs.Branching.{none_left, last_forced}
+use Rattle.maker_branch.proofs.BranchLaws.{none_left, last_forced}
 use Rattle.terms.proofs.MaskLaws.{subset_self}
 use Rattle.maker_branch.proofs.Members.{subset_with, below_with}
 use Rattle.maker_branch.proofs.narrowing.with_last.Goals as goal

@@ -1,5 +1,5 @@
 use Rattle.std.proofs.Common.{refl, rules, sym, ◌∙◌, arith}
-use Rattle.maker_branch.proofs.Deciding.{best_alone, best_both, best_chosen, best_floor, best_forced, best_wider, none_open, open_parts}
+use Rattle.maker_branch.proofs.Deciding.{best_alone, best_both, best_chosen, best_bound, best_forced, best_wider, none_open, open_parts}
 use Rattle.maker_branch.proofs.Members.{below_mask, below_with, falls_chosen, falls_out, fewer_chosen, greater, grows_with}
 use Rattle.maker_branch.proofs.branch_and_bound.BranchAndBoundMaker.+narrowing.Goals as goal
 
@@ -19,21 +19,21 @@ narrow-returns-in-None g t c =
 
 pub cut-returns-then-reaches : goal.cut-returns-then-reaches
 cut-returns-then-reaches g t c =
-    best_floor g.W.WeightKind.kind g.met.W.WeightKind.laws c.args.self.now.store c.args.chosen c.args.out c.args.best _ _ _ c.requires.cover (c.of_chosen-base.ensures c.args.out)
-    c.sum-ceiling.ensures (sym c.reaches.ensures ∙ c.if-reaches.true)
+    best_bound g.W.WeightKind.kind g.met.W.WeightKind.laws c.args.self.now.store c.args.chosen c.args.out c.args.best _ _ _ c.requires.cover (c.of_chosen-base.ensures c.args.out)
+    c.sum-best_cost.ensures (sym c.reaches.ensures ∙ c.if-reaches.true)
 
 pub cut-returns-then-is_cover : goal.cut-returns-then-is_cover
 cut-returns-then-is_cover g t c =
     best_chosen g.W.WeightKind.kind g.met.W.WeightKind.laws c.args.self.now.store c.args.chosen c.args.out c.args.best c.cheaper.result c.requires.cover
     (sym c.is_cover.ensures ∙ c.if-is_cover.true) c.cheaper.ensures.no_dearer
 
-pub cut-of-floor-requires : goal.cut-of-floor-requires
-cut-of-floor-requires g t c = let bears = c.of_chosen-base.ensures c.args.out in search rules
+pub cut-of-bound-requires : goal.cut-of-bound-requires
+cut-of-bound-requires g t c = let bears = c.of_chosen-base.ensures c.args.out in search rules
 
 pub cut-returns-then-reaches-2 : goal.cut-returns-then-reaches-2
 cut-returns-then-reaches-2 g t c =
-    best_floor g.W.WeightKind.kind g.met.W.WeightKind.laws c.args.self.now.store c.args.chosen c.args.out c.args.best _ _ _ c.requires.cover c.of-floor.ensures.loads
-    c.sum-ceiling.ensures (sym c.reaches-2.ensures ∙ c.if-reaches-2.true)
+    best_bound g.W.WeightKind.kind g.met.W.WeightKind.laws c.args.self.now.store c.args.chosen c.args.out c.args.best _ _ _ c.requires.cover c.of-bound.ensures.loads
+    c.sum-best_cost.ensures (sym c.reaches-2.ensures ∙ c.if-reaches-2.true)
 
 pub cut-with_dear-wider-requires : goal.cut-with_dear-wider-requires
 cut-with_dear-wider-requires g t c = let bears = c.of_chosen-base.ensures c.args.out in search rules
@@ -48,8 +48,8 @@ cut-narrow-requires g t c κs within =
 
 pub cut-returns-then-not-is_subset : goal.cut-returns-then-not-is_subset
 cut-returns-then-not-is_subset g t c =
-    best_wider g.W.WeightKind.kind g.met.W.WeightKind.laws c.args.self.now.store c.args.chosen c.args.out c.args.best c.with_dear-wider.result c.narrow.result c.sum-ceiling.result
-    c.sum-ceiling.ensures c.with_dear-wider.ensures.dear c.narrow.ensures
+    best_wider g.W.WeightKind.kind g.met.W.WeightKind.laws c.args.self.now.store c.args.chosen c.args.out c.args.best c.with_dear-wider.result c.narrow.result c.sum-best_cost.result
+    c.sum-best_cost.ensures c.with_dear-wider.ensures.dear c.narrow.ensures
 
 pub cut-split-requires : goal.cut-split-requires
 cut-split-requires g t c κs within = (

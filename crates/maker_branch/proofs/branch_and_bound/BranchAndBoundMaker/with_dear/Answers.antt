@@ -1,6 +1,6 @@
 use Rattle.std.proofs.lemmas.Bool.{both_ways}
 use Rattle.terms.specs.Masks.{intersect}
-use Rattle.maker_branch.proofs.Branching.{in_parts, one_more_out}
+use Rattle.maker_branch.proofs.BranchLaws.{in_parts, one_more_out}
 use Rattle.terms.proofs.MaskLaws.{subset_self, subset_trans}
 use Rattle.maker_branch.proofs.Members.{subset_with, below_with}
 use Rattle.maker_branch.proofs.branch_and_bound.BranchAndBoundMaker.with_dear.Goals as goal

@@ -1,7 +1,7 @@
 use Rattle.std.proofs.Common.{refl}
 use Rattle.std.proofs.lemmas.Bool.{both_ways}
 use Rattle.maker_branch.specs.Branches.{meets_in, in_branch}
-use Rattle.maker_branch.proofs.Branching.{in_parts, met_in_branch, not_so}
+use Rattle.maker_branch.proofs.BranchLaws.{in_parts, met_in_branch, not_so}
 use Rattle.terms.proofs.MaskLaws.{subset_self, subset_trans}
 use Rattle.maker_branch.proofs.branch_and_bound.BranchAndBoundMaker.with_forced.Goals as goal
 

@@ -1,5 +1,5 @@
 use Rattle.std.proofs.Common.{sym, ◌∙◌}
-use Rattle.maker_branch.proofs.Branching.{both_have}
+use Rattle.maker_branch.proofs.BranchLaws.{both_have}
 use Rattle.maker_branch.proofs.loads.Loads.choose.Goals as goal
 
 pub returns-then-has : goal.returns-then-has

@@ -2,7 +2,7 @@ use Rattle.std.proofs.Common.{◌≡◌, ℕ, true, ◌&&◌}
 use Rattle.terms.specs.Masks.{member, subset}
 use Rattle.maker_branch.specs.Branches.{in_branch}
 use Rattle.maker_branch.specs.Loads.{Bears}
-use Rattle.maker_branch.proofs.floors.Floor.is_dear_with.Given as goal
+use Rattle.maker_branch.proofs.lower_bounds.LowerBound.is_dear_with.Given as goal
 
 -- the loads are those of the covers of the branch that have the number
 abbrev pub invariant-loop-raise : goal.invariant-loop-raise

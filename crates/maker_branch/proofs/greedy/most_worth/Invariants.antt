@@ -1,7 +1,7 @@
 use Rattle.std.proofs.Common.{◌≡◌, ℕ, true, eqb}
 use Rattle.std.specs.List.{list_any}
 use Rattle.terms.specs.Masks.{member}
-use Rattle.maker_branch.proofs.quick.most_worth.Given as goal
+use Rattle.maker_branch.proofs.greedy.most_worth.Given as goal
 
 -- the best in hand is open, and so are the numbers to come
 abbrev pub invariant-loop-number : goal.invariant-loop-number

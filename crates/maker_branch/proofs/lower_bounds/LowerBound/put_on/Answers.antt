@@ -1,5 +1,5 @@
 use Rattle.maker_branch.specs.Branches.{in_branch}
-use Rattle.maker_branch.proofs.floors.Floor.put_on.Goals as goal
+use Rattle.maker_branch.proofs.lower_bounds.LowerBound.put_on.Goals as goal
 
 pub returns-then-has_room-clause-loads : goal.returns-then-has_room-clause-loads
 returns-then-has_room-clause-loads g c chosen b =

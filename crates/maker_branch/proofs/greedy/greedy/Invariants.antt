@@ -1,6 +1,6 @@
 use Rattle.std.proofs.Common.{◌≡◌, true, ◌-◌, ◌^◌, length}
 use Rattle.terms.specs.Masks.{below}
-use Rattle.maker_branch.proofs.quick.greedy.Given as goal
+use Rattle.maker_branch.proofs.greedy.greedy.Given as goal
 
 -- given numbers are taken
 abbrev pub invariant-loop-number : goal.invariant-loop-number

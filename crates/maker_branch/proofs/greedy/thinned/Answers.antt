@@ -1,6 +1,6 @@
 use Rattle.terms.proofs.MaskLaws.{subset_trans}
 use Rattle.maker_branch.proofs.Thinning.{fewer, tried}
-use Rattle.maker_branch.proofs.quick.thinned.Goals as goal
+use Rattle.maker_branch.proofs.greedy.thinned.Goals as goal
 
 pub loop-number-smaller : goal.loop-number-smaller
 loop-number-smaller g c = fewer c.remove-left.result c.loop-number.left c.in-Some.number c.remove-left.ensures c.in-Some.ensures.member

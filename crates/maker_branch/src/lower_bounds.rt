@@ -6,25 +6,26 @@ ghost use Rattle.maker_branch.specs.Branches.{in_branch};
 ghost use Rattle.maker_branch.specs.Loads.{Bears};
 
 use crate::loads::Loads;
-use crate::order::{CORES, Order};
+use crate::order::Order;
 use crate::scores::Scores;
 use core_store::Store;
+use terms::limits::CORE_PLACES;
 use terms::SoftSet;
 use weights::WeightKind;
 
 /// How many amounts are kept.
 const RAISES: usize = 64;
 
-/// An amount that was put on what was left of the core at this place.
+/// An amount that was put on what was left of the core at this index.
 #[derive(Clone, Copy, Debug)]
 pub(crate) struct Raise<W: WeightKind> {
-    pub(crate) place: usize,
+    pub(crate) index: usize,
     pub(crate) amount: W,
 }
 
 /// Loads of a branch, whose total is a floor under the costs of its covers, and the amounts in the order in which they came.
 #[derive(Debug, Drop)]
-pub(crate) struct Floor<W: WeightKind> {
+pub(crate) struct LowerBound<W: WeightKind> {
     /// The loads of the chosen numbers alone.
     pub(crate) base: Loads<W>,
     /// The loads of the cores too.
@@ -35,17 +36,17 @@ pub(crate) struct Floor<W: WeightKind> {
     count: usize,
 }
 
-impl<W: WeightKind> Floor<W> {
+impl<W: WeightKind> LowerBound<W> {
     /// No loads yet.
-    pub(crate) fn new(lightest: W) -> Floor<W>
+    pub(crate) fn new(lightest: W) -> LowerBound<W>
         ensures { result.count ≡ 0 }
     {
         let none = Raise {
-            place: 0,
+            index: 0,
             amount: W::zero(),
         };
         let base = Loads::new(lightest);
-        Floor {
+        LowerBound {
             base,
             loads: base,
             raises: [none; RAISES],
@@ -53,47 +54,47 @@ impl<W: WeightKind> Floor<W> {
         }
     }
 
-    /// The floor of a branch. It goes up only while it is below what is enough.
+    /// The bound of a branch. It goes up only while it is below what is enough.
     pub(crate) fn of(
         store: &Store<W>,
         chosen: SoftSet,
         out: SoftSet,
         base: Loads<W>,
         mut order: Order,
-        enough: W,
-    ) -> Floor<W>
+        best_cost: W,
+    ) -> LowerBound<W>
         requires { Bears W.kind store.now.weights (in_branch store.now chosen out) base.loads base.total }
         ensures base { result.base ≡ base }
         ensures loads { Bears W.kind store.now.weights (in_branch store.now chosen out) result.loads.loads result.loads.total }
     {
-        let mut floor = Floor::new(base.lightest);
-        floor.base = base;
-        floor.loads = base;
-        for _ in 0..CORES {
-            if floor.loads.reaches(enough) {
+        let mut bound = LowerBound::new(base.lightest);
+        bound.base = base;
+        bound.loads = base;
+        for _ in 0..CORE_PLACES {
+            if bound.loads.reaches(best_cost) {
                 break;
             }
-            let Some(place) = order.take_first() else {
+            let Some(index) = order.take_first() else {
                 break;
             };
-            floor.put_on(store, out, place);
+            bound.put_on(store, out, index);
         }
-        floor
+        bound
     }
 
-    /// Puts on what is left of the core at this place the heaviest weight that it can bear.
-    fn put_on(&mut self, store: &Store<W>, out: SoftSet, place: usize)
+    /// Puts on what is left of the core at this index the heaviest weight that it can bear.
+    fn put_on(&mut self, store: &Store<W>, out: SoftSet, index: usize)
         ensures base { self.new.base ≡ self.old.base }
         ensures loads { (chosen : ℕ) → Bears W.kind store.now.weights (in_branch store.now chosen out) self.old.loads.loads self.old.loads.total
             → Bears W.kind store.now.weights (in_branch store.now chosen out) self.new.loads.loads self.new.loads.total }
     {
-        let Some(rest) = left_of(store, out, place) else {
+        let Some(rest) = left_of(store, out, index) else {
             return;
         };
         if self.loads.has_room(rest) {
             let amount = self.loads.most_for(store, rest);
             self.loads.raise(store, rest, amount);
-            self.keep(Raise { place, amount });
+            self.keep(Raise { index, amount });
         }
     }
 
@@ -115,29 +116,29 @@ impl<W: WeightKind> Floor<W> {
         store: &Store<W>,
         out: SoftSet,
         number: usize,
-        enough: W,
+        best_cost: W,
     ) -> bool
         ensures { (chosen wider : ℕ) → Bears W.kind store.now.weights (in_branch store.now chosen wider) self.now.base.loads self.now.base.total
             → subset wider out ≡ true → (set : ℕ) → in_branch store.now chosen out set ≡ true → member set number ≡ true → result ≡ true
-            → W.kind.le (W.kind.value enough) (cost W.kind store.now.weights set) ≡ true }
+            → W.kind.le (W.kind.value best_cost) (cost W.kind store.now.weights set) ≡ true }
     {
         let mut loads = self.base;
         loads.choose(store, number);
         for raise in self.raises.iter().take(self.count) {
-            if let Some(rest) = left_of(store, out, raise.place) {
+            if let Some(rest) = left_of(store, out, raise.index) {
                 if !rest.has(number) {
                     loads.raise(store, rest, raise.amount);
                 }
             }
         }
-        loads.reaches(enough)
+        loads.reaches(best_cost)
     }
 }
 
-/// What is left of the core at this place: each cover of a branch without the numbers left out has some of it.
-#[tactic(auto, using(crate::proofs::Branching::left_met))]
-fn left_of<W: WeightKind>(store: &Store<W>, out: SoftSet, place: usize) -> Option<SoftSet>
+/// What is left of the core at this index: each cover of a branch without the numbers left out has some of it.
+#[tactic(auto, using(crate::proofs::BranchLaws::left_met))]
+fn left_of<W: WeightKind>(store: &Store<W>, out: SoftSet, index: usize) -> Option<SoftSet>
     ensures { IfSome result (λ rest. (chosen set : ℕ) → in_branch store.now chosen out set ≡ true → intersect rest set ≡ true) }
 {
-    Some(store.cores().get(place)?.minus(out))
+    Some(store.cores().get(index)?.minus(out))
 }

@@ -1,9 +1,9 @@
 use Rattle.std.proofs.Common.{ℕ, ◌&&◌, sym, ◌∙◌}
 use Rattle.terms.specs.Masks.{member}
 use Rattle.maker_branch.specs.Branches.{in_branch}
-use Rattle.maker_branch.proofs.Branching.{in_narrower, both_from, first_of, second_of}
-use Rattle.maker_branch.proofs.LoadLaws.{bears_fewer, floor_under}
-use Rattle.maker_branch.proofs.floors.Floor.is_dear_with.Goals as goal
+use Rattle.maker_branch.proofs.BranchLaws.{in_narrower, both_from, first_of, second_of}
+use Rattle.maker_branch.proofs.LoadLaws.{bears_fewer, bound_under}
+use Rattle.maker_branch.proofs.lower_bounds.LowerBound.is_dear_with.Goals as goal
 
 pub loop-raise-init : goal.loop-raise-init
 loop-raise-init g c chosen wider b s =
@@ -24,5 +24,5 @@ pub returns : goal.returns
 returns g c chosen wider b s set h t e =
     let m = c.args.store.now in
     let these = λ (x : ℕ). in_branch m chosen c.args.out x && member x c.args.number in
-    floor_under g.W.WeightKind.kind g.met.W.WeightKind.laws m.weights _ _ these set _ (c.loop-raise.invariant chosen wider b s) (both_from (in_branch m chosen c.args.out set) (member set c.args.number) h t)
+    bound_under g.W.WeightKind.kind g.met.W.WeightKind.laws m.weights _ _ these set _ (c.loop-raise.invariant chosen wider b s) (both_from (in_branch m chosen c.args.out set) (member set c.args.number) h t)
     (sym c.reaches.ensures ∙ e)

@@ -1,7 +1,7 @@
 use Rattle.std.proofs.Common.{◌≡◌, ℕ, true, false}
 use Rattle.terms.specs.Masks.{member, subset}
 use Rattle.makers.specs.Covers.{is_cover, Needed}
-use Rattle.maker_branch.proofs.quick.thinned.Given as goal
+use Rattle.maker_branch.proofs.greedy.thinned.Given as goal
 
 -- part of the cover, and a cover, of which no number that was tried can be spared
 abbrev pub invariant-loop-number : goal.invariant-loop-number

@@ -1,7 +1,7 @@
 use Rattle.std.proofs.Common.{◌≡◌, ℕ, true, eqb}
 use Rattle.std.specs.List.{list_any}
 use Rattle.terms.specs.Masks.{member}
-use Rattle.maker_branch.proofs.quick.heaviest.Given as goal
+use Rattle.maker_branch.proofs.greedy.heaviest.Given as goal
 
 -- the heaviest so far is a member, and so are those to come
 abbrev pub invariant-loop-number : goal.invariant-loop-number

@@ -1,6 +1,6 @@
 use Rattle.std.proofs.Common.{◌<◌, refl, arith}
-use Rattle.maker_branch.proofs.Greedy.{met, given, greater}
-use Rattle.maker_branch.proofs.quick.greedy.Goals as goal
+use Rattle.maker_branch.proofs.GreedyLaws.{met, given, greater}
+use Rattle.maker_branch.proofs.greedy.greedy.Goals as goal
 
 pub loop-number-smaller : goal.loop-number-smaller
 loop-number-smaller g c =

@@ -65,9 +65,9 @@ module _ {W : Type 0} (m : MakerMeaning W) where
       grind (arith, nat_tests, e, met, lacks, intersect_members set core, intersect_members out set, intersect_members rest set)
 
   -- what is left of a kept core meets each cover of the branch
-  pub left_met : (chosen out rest place core set : ℕ) → place < length m.cores → core ≡ get_or m.cores place core → ((j : ℕ) → member rest j ≡ (member core j && not (member out j)))
+  pub left_met : (chosen out rest index core set : ℕ) → index < length m.cores → core ≡ get_or m.cores index core → ((j : ℕ) → member rest j ≡ (member core j && not (member out j)))
       → in_branch m chosen out set ≡ true → intersect rest set ≡ true
-  left_met chosen out rest place core set l e r h = rest_met chosen out rest core set r (kept_met place core set l e (in_parts chosen out set h).0) h
+  left_met chosen out rest index core set l e r h = rest_met chosen out rest core set r (kept_met index core set l e (in_parts chosen out set h).0) h
 
   pub chosen_has : (chosen out set number : ℕ) → member chosen number ≡ true → in_branch m chosen out set ≡ true → member set number ≡ true
   chosen_has chosen out set number t h = (subset_members chosen set).0 (in_parts chosen out set h).1 number t
