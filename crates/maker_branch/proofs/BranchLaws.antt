@@ -1,15 +1,15 @@
 -- What one branch says of another.
-use Rattle.std.proofs.Common.{◌≡◌, ℕ, zero, suc, ◌<◌, Bool, true, false, not, ◌&&◌, ◌||◌, ⊎_elim, List, [], ◌∷◌, length, get_or, refl, sym, subst, arith}
+use Rattle.std.proofs.Common.{◌≡◌, ℕ, zero, suc, ◌<◌, Bool, true, false, not, ◌&&◌, ⊎_elim, List, [], ◌∷◌, length, get_or, refl, sym, subst, arith}
 use Rattle.std.proofs.lemmas.Bool.Decides.{nat_tests}
 use Rattle.std.specs.Prelude.{◌==◌}
 use Rattle.std.proofs.lemmas.Bool.{cases_Bool}
 use Rattle.std.specs.List.{list_all}
 use Rattle.terms.specs.Masks.{member, subset, intersect}
-use Rattle.terms.specs.Sets.{fits}
-use Rattle.terms.proofs.MaskLaws.{subset_members, intersect_members}
+use Rattle.terms.proofs.MaskLaws.{subset_members, subset_self, intersect_members}
 use Rattle.makers.specs.Meanings.{MakerMeaning}
 use Rattle.makers.specs.Covers.{is_cover}
-use Rattle.maker_branch.specs.Branches.{meets_in, in_branch}
+use Rattle.maker_branch.specs.Branches.{in_branch, meets_in, Forced, NoneOf, With}
+use Rattle.maker_branch.specs.declared.branches.Branch.{Branch}
 
 -- ---- lists of cores
 all_at : (p : ℕ → Bool) (cs : List ℕ) (k core : ℕ) → k < length cs → core ≡ get_or cs k core → list_all p cs ≡ true → p core ≡ true
@@ -37,58 +37,60 @@ not_so false h = refl
 pub both_have : (x y k : ℕ) → member x k ≡ true → member y k ≡ true → intersect x y ≡ true
 both_have x y k a b = (intersect_members x y).1 (k, a, b)
 
--- ---- a core of which the numbers left out are taken away
-module _ (chosen out core rest set : ℕ) (left : (k : ℕ) → member rest k ≡ (member core k && not (member out k))) where
-  pub none_left : ((k : ℕ) → member rest k ≡ false) → meets_in chosen out core set ≡ false
-  none_left none = grind (arith, nat_tests, left, none, intersect_members set core, intersect_members out set)
+-- ---- no number is chosen besides
+pub forced_none : (branch : Branch) (core : ℕ) → Forced (meets_in branch core) branch branch
+forced_none branch core = record { out = refl; chosen = subset_self branch.chosen; forced = λ set h. grind (arith, h) }
 
-  pub last_forced : (number others more : ℕ) → ((k : ℕ) → member others k ≡ (member rest k && not (number == k))) → ((k : ℕ) → member others k ≡ false)
-      → ((k : ℕ) → member more k ≡ (member chosen k || (number == k && fits k))) → meets_in chosen out core set ≡ true → subset more set ≡ true
+-- ---- a core of which the numbers left out are taken away
+module _ (branch : Branch) (core rest set : ℕ) (left : (k : ℕ) → member rest k ≡ (member core k && not (member branch.out k))) where
+  pub none_left : NoneOf (member rest) → meets_in branch core set ≡ false
+  none_left none = grind (arith, nat_tests, left, none, intersect_members set core, intersect_members branch.out set)
+
+  pub last_forced : (number others more : ℕ) → ((k : ℕ) → member others k ≡ (member rest k && not (number == k))) → NoneOf (member others)
+      → With branch.chosen number more → meets_in branch core set ≡ true → subset more set ≡ true
   last_forced number others more o none m h =
-      grind (arith, nat_tests, left, o, none, m, h, intersect_members set core, intersect_members out set, subset_members chosen set, subset_members more set)
+      grind (arith, nat_tests, left, o, none, m, h, intersect_members set core, intersect_members branch.out set, subset_members branch.chosen set, subset_members more set)
 
 module _ {W : Type 0} (m : MakerMeaning W) where
   -- ---- what is in a branch
-  pub in_parts : (chosen out set : ℕ) → in_branch m chosen out set ≡ true → (is_cover m set ≡ true) × (subset chosen set ≡ true) × (intersect out set ≡ false)
-  in_parts chosen out set h = (grind (arith, h), grind (arith, h), grind (arith, h))
+  pub in_parts : (branch : Branch) (set : ℕ) → in_branch m branch set ≡ true → (is_cover m set ≡ true) × (subset branch.chosen set ≡ true) × (intersect branch.out set ≡ false)
+  in_parts branch set h = (grind (arith, h), grind (arith, h), grind (arith, h))
 
-  pub in_from : (chosen out set : ℕ) → is_cover m set ≡ true → subset chosen set ≡ true → intersect out set ≡ false → in_branch m chosen out set ≡ true
-  in_from chosen out set c s i = grind (arith, c, s, i)
+  pub in_from : (branch : Branch) (set : ℕ) → is_cover m set ≡ true → subset branch.chosen set ≡ true → intersect branch.out set ≡ false → in_branch m branch set ≡ true
+  in_from branch set c s i = grind (arith, c, s, i)
 
   -- a cover meets a kept core, and a cover of the branch meets what is left of it
-  pub kept_met : (k core set : ℕ) → k < length m.cores → core ≡ get_or m.cores k core → is_cover m set ≡ true → intersect set core ≡ true
-  kept_met k core set l e c = all_at (intersect set) m.cores k core l e (grind (arith, c))
+  pub left_met : (branch : Branch) (rest index core set : ℕ) → index < length m.cores → core ≡ get_or m.cores index core
+      → ((j : ℕ) → member rest j ≡ (member core j && not (member branch.out j))) → in_branch m branch set ≡ true → intersect rest set ≡ true
+  left_met branch rest index core set l e r h =
+      let parts = in_parts branch set h in
+      let met : intersect set core ≡ true = all_at (intersect set) m.cores index core l e (grind (arith, parts.0)) in
+      grind (arith, nat_tests, r, met, parts.2, intersect_members set core, intersect_members branch.out set, intersect_members rest set)
 
-  pub rest_met : (chosen out rest core set : ℕ) → ((j : ℕ) → member rest j ≡ (member core j && not (member out j))) → intersect set core ≡ true → in_branch m chosen out set ≡ true → intersect rest set ≡ true
-  rest_met chosen out rest core set e met h =
-      let lacks = (in_parts chosen out set h).2 in
-      grind (arith, nat_tests, e, met, lacks, intersect_members set core, intersect_members out set, intersect_members rest set)
-
-  -- what is left of a kept core meets each cover of the branch
-  pub left_met : (chosen out rest index core set : ℕ) → index < length m.cores → core ≡ get_or m.cores index core → ((j : ℕ) → member rest j ≡ (member core j && not (member out j)))
-      → in_branch m chosen out set ≡ true → intersect rest set ≡ true
-  left_met chosen out rest index core set l e r h = rest_met chosen out rest core set r (kept_met index core set l e (in_parts chosen out set h).0) h
-
-  pub chosen_has : (chosen out set number : ℕ) → member chosen number ≡ true → in_branch m chosen out set ≡ true → member set number ≡ true
-  chosen_has chosen out set number t h = (subset_members chosen set).0 (in_parts chosen out set h).1 number t
+  pub chosen_has : (branch : Branch) (set number : ℕ) → member branch.chosen number ≡ true → in_branch m branch set ≡ true → member set number ≡ true
+  chosen_has branch set number t h = (subset_members branch.chosen set).0 (in_parts branch set h).1 number t
 
   -- a narrower branch
-  pub in_narrower : (chosen out wider set : ℕ) → subset out wider ≡ true → in_branch m chosen wider set ≡ true → in_branch m chosen out set ≡ true
-  in_narrower chosen out wider set s h =
-      let parts = in_parts chosen wider set h in
-      in_from chosen out set parts.0 parts.1 (grind (arith, nat_tests, s, parts.2, subset_members out wider, intersect_members out set, intersect_members wider set))
+  pub in_narrower : (branch narrower : Branch) (set : ℕ) → narrower.chosen ≡ branch.chosen → subset branch.out narrower.out ≡ true → in_branch m narrower set ≡ true → in_branch m branch set ≡ true
+  in_narrower branch narrower set e s h =
+      let parts = in_parts narrower set h in
+      in_from branch set parts.0 (subst (λ x. subset x set ≡ true) e parts.1)
+      (grind (arith, nat_tests, s, parts.2, subset_members branch.out narrower.out, intersect_members branch.out set, intersect_members narrower.out set))
 
   -- a cover of the branch meets each kept core
-  pub met_in_branch : (cs : List ℕ) (chosen more out k core set : ℕ) → cs ≡ m.cores → k < length cs → core ≡ get_or cs k core → in_branch m chosen out set ≡ true → subset more set ≡ true
-      → meets_in more out core set ≡ true
-  met_in_branch cs chosen more out k core set same l e h s =
-      let parts = in_parts chosen out set h in
+  pub met_in_branch : (cs : List ℕ) (branch more : Branch) (k core set : ℕ) → cs ≡ m.cores → k < length cs → core ≡ get_or cs k core → in_branch m branch set ≡ true
+      → more.out ≡ branch.out → subset more.chosen set ≡ true → meets_in more core set ≡ true
+  met_in_branch cs branch more k core set same l e h o s =
+      let parts = in_parts branch set h in
       let all : list_all (intersect set) cs ≡ true = subst (λ xs. list_all (intersect set) xs ≡ true) (sym same) (grind (arith, parts.0)) in
-      grind (arith, s, parts.2, all_at (intersect set) cs k core l e all)
+      grind (arith, o, s, parts.2, all_at (intersect set) cs k core l e all)
 
   -- what was left out before, or the branch of what was not, in which the number is
-  pub one_more_out : {X : Type 0} (chosen out wider more number set : ℕ) → ((k : ℕ) → member more k ≡ (member wider k || (number == k && fits k))) → in_branch m chosen out set ≡ true
-      → intersect more set ≡ true → (intersect wider set ≡ true → X) → (in_branch m chosen wider set ≡ true → member set number ≡ true → X) → X
-  one_more_out chosen out wider more number set e h t before now = ⊎_elim before
-      (λ apart. now (in_from chosen wider set (in_parts chosen out set h).0 (in_parts chosen out set h).1 apart) (grind (arith, nat_tests, e, t, apart, intersect_members more set, intersect_members wider set)))
-      (cases_Bool (intersect wider set))
+  pub one_more_out : {X : Type 0} (branch narrower : Branch) (more number set : ℕ) → narrower.chosen ≡ branch.chosen → With narrower.out number more → in_branch m branch set ≡ true
+      → intersect more set ≡ true → (intersect narrower.out set ≡ true → X) → (in_branch m narrower set ≡ true → member set number ≡ true → X) → X
+  one_more_out branch narrower more number set c e h t before now =
+      let parts = in_parts branch set h in
+      ⊎_elim before
+      (λ apart. now (in_from narrower set parts.0 (subst (λ x. subset x set ≡ true) (sym c) parts.1) apart)
+      (grind (arith, nat_tests, e, t, apart, intersect_members more set, intersect_members narrower.out set)))
+      (cases_Bool (intersect narrower.out set))

@@ -4,7 +4,7 @@ use Rattle.weights.specs.Costs.{cost_from, cost}
 use Rattle.weights.specs.Kinds.{Kind, Laws}
 use Rattle.terms.specs.Masks.{member}
 use Rattle.weights.proofs.SumLaws.{le_self, more_both, pick_more}
-use Rattle.maker_branch.specs.Loads.{value_at, Bears}
+use Rattle.maker_branch.specs.Loads.{value_at, AllWithin, Raised, Borne, Bears}
 
 module _ {W : Type 0} (K : Kind W) where
   pub value_at_index : (xs : List W) (k : ℕ) (w : W) → k < length xs → w ≡ get_or xs k w → value_at K xs k ≡ K.value w
@@ -12,13 +12,12 @@ module _ {W : Type 0} (K : Kind W) where
   value_at_index (x ∷ xs) zero w l h = ap K.value (sym h)
   value_at_index (x ∷ xs) (suc k) w l h = value_at_index xs k w (omega arith) h
 
-  pub value_at_none : (n k : ℕ) (z : W) → K.value z ≡ K.zero → value_at K (replicate n z) k ≡ K.zero
+  value_at_none : (n k : ℕ) (z : W) → K.value z ≡ K.zero → value_at K (replicate n z) k ≡ K.zero
   value_at_none zero k z h = refl
   value_at_none (suc n) zero z h = h
   value_at_none (suc n) (suc k) z h = value_at_none n k z h
 
-  pub set_within : (xs ys : List W) (j : ℕ) (t : W) → ((k : ℕ) → K.le (value_at K xs k) (value_at K ys k) ≡ true) → K.le (K.value t) (value_at K ys j) ≡ true
-      → (k : ℕ) → K.le (value_at K (slice_set xs j t) k) (value_at K ys k) ≡ true
+  set_within : (xs ys : List W) (j : ℕ) (t : W) → AllWithin K xs ys → K.le (K.value t) (value_at K ys j) ≡ true → AllWithin K (slice_set xs j t) ys
   set_within [] ys j t h l k = h k
   set_within (x ∷ xs) ys zero t h l zero = l
   set_within (x ∷ xs) ys zero t h l (suc k) = h (suc k)
@@ -28,7 +27,7 @@ module _ {W : Type 0} (K : Kind W) where
 
 module _ {W : Type 0} (K : Kind W) (laws : Laws K) where
   -- what costs no more by the number costs no more by the set
-  pub cost_within : (xs ys : List W) (p : ℕ → Bool) (i : ℕ) → ((k : ℕ) → K.le (value_at K xs k) (value_at K ys k) ≡ true) → K.le (cost_from K xs p i) (cost_from K ys p i) ≡ true
+  cost_within : (xs ys : List W) (p : ℕ → Bool) (i : ℕ) → AllWithin K xs ys → K.le (cost_from K xs p i) (cost_from K ys p i) ≡ true
   cost_within [] ys p i h = laws.least (cost_from K ys p i)
   cost_within (x ∷ xs) [] p i h =
       subst (λ z. K.le (K.plus (cond (p i) (K.value x) K.zero) (cost_from K xs p (suc i))) z ≡ true) (laws.unit K.zero)
@@ -46,7 +45,7 @@ module _ {W : Type 0} (K : Kind W) (laws : Laws K) where
   added false x y z v h = sym (laws.comm (K.plus K.zero z) K.zero ∙ laws.unit (K.plus K.zero z))
 
   -- an amount more on one number counts for the sets that have it
-  pub cost_set : (xs : List W) (j : ℕ) (t : W) (y : K.V) (p : ℕ → Bool) (i : ℕ) → j < length xs → K.value t ≡ K.plus (value_at K xs j) y
+  cost_set : (xs : List W) (j : ℕ) (t : W) (y : K.V) (p : ℕ → Bool) (i : ℕ) → j < length xs → K.value t ≡ K.plus (value_at K xs j) y
       → cost_from K (slice_set xs j t) p i ≡ K.plus (cost_from K xs p i) (cond (p (i + j)) y K.zero)
   cost_set [] j t y p i l h = absurd (omega arith)
   cost_set (x ∷ xs) zero t y p i l h =
@@ -65,7 +64,7 @@ module _ {W : Type 0} (K : Kind W) (laws : Laws K) where
   }
 
   -- the loads once one number bears an amount more
-  pub cost_borne : (xs : List W) (j : ℕ) (t : W) (y : K.V) (set : ℕ) → j < length xs → K.value t ≡ K.plus (value_at K xs j) y
+  cost_borne : (xs : List W) (j : ℕ) (t : W) (y : K.V) (set : ℕ) → j < length xs → K.value t ≡ K.plus (value_at K xs j) y
       → cost K (slice_set xs j t) set ≡ cond (member set j) (K.plus (cost K xs set) y) (cost K xs set)
   cost_borne xs j t y set l h = cost_set xs j t y (member set) 0 l h ∙ ap (λ k. K.plus (cost K xs set) (cond (member set k) y K.zero)) (omega arith) ∙ inside (member set j)
     where
@@ -73,12 +72,22 @@ module _ {W : Type 0} (K : Kind W) (laws : Laws K) where
       inside true = refl
       inside false = laws.comm (cost K xs set) K.zero ∙ laws.unit (cost K xs set)
 
+  module _ (weights loads : List W) (k : ℕ) (amount : K.V) where
+    pub borne : (load : W) → Raised K weights loads k amount load → Borne K weights k amount true loads (slice_set loads k load)
+    borne load r = record {
+      within = λ h. set_within K loads weights k load h r.within;
+      costs = λ set. cost_borne loads k load amount set r.fits r.sum;
+    }
+
+    pub not_borne : Borne K weights k amount false loads loads
+    not_borne = record { within = λ h. h; costs = λ set. refl }
+
   -- what holds of more sets holds of fewer
   pub bears_fewer : (weights loads : List W) (total : W) (these those : ℕ → Bool) → ((set : ℕ) → those set ≡ true → these set ≡ true) → Bears K weights these loads total
       → Bears K weights those loads total
   bears_fewer weights loads total these those f b = record { within = b.within; enough = λ set t. b.enough set (f set t) }
 
-  -- the total is a floor under the costs of these sets
+  -- none of these sets costs less than the total
   pub bound_under : (weights loads : List W) (total : W) (these : ℕ → Bool) (set : ℕ) (x : K.V) → Bears K weights these loads total → these set ≡ true → K.le x (K.value total) ≡ true
       → K.le x (cost K weights set) ≡ true
   bound_under weights loads total these set x b t l =

@@ -1,13 +1,14 @@
 -- Sets with one number more, and their masks as numbers.
-use Rattle.std.proofs.Common.{◌≡◌, ℕ, ◌+◌, ◌-◌, ◌<◌, ◌≤◌, ◌^◌, Bool, true, false, bit_and, ⊎_elim, sym, ap, ◌&&◌, ◌||◌, List, [], ◌∷◌, ◌∙◌, refl, arith, subst}
+use Rattle.std.proofs.Common.{◌≡◌, ℕ, ◌+◌, ◌-◌, ◌<◌, ◌≤◌, ◌^◌, Bool, true, false, bit_and, ⊎_elim, sym, ap, List, [], ◌∷◌, ◌∙◌, refl, arith, subst}
 use Rattle.std.specs.Prelude.{◌==◌}
 use Rattle.std.specs.List.{list_all, list_any}
 use Rattle.std.proofs.lemmas.Bool.{both_ways, cases_lt, eqb-true, ltb-true}
 use Rattle.std.proofs.lemmas.Nat.{and_le_r}
 use Rattle.std.proofs.lemmas.Bool.Decides.{nat_tests}
 use Rattle.terms.specs.Masks.{member, subset, intersect, below}
-use Rattle.terms.specs.Sets.{fits}
-use Rattle.terms.proofs.MaskLaws.{subset_members, subset_self, intersect_members, below_members}
+use Rattle.terms.proofs.MaskLaws.{none_members, subset_members, subset_self, intersect_members, below_members}
+use Rattle.maker_branch.specs.Branches.{With}
+use Rattle.maker_branch.specs.declared.branches.Branch.{Branch}
 
 -- what is listed and nothing else passes the test, so all that is listed does
 pub all_listed : (p : ℕ → Bool) (ks : List ℕ) → ((k : ℕ) → p k ≡ list_any (λ j. j == k) ks) → list_all p ks ≡ true
@@ -23,8 +24,8 @@ all_listed p ks e = from ks (λ k h. e k ∙ h)
 pub next_passes : (p : ℕ → Bool) (k : ℕ) (items rest : List ℕ) → items ≡ k ∷ rest → list_all p items ≡ true → (p k ≡ true) × (list_all p rest ≡ true)
 next_passes p k items rest e h = let both = subst (λ ks. list_all p ks ≡ true) e h in (grind (arith, both), grind (arith, both))
 
-pub below_none : (x : ℕ) → ((k : ℕ) → member x k ≡ false) → below 64 x ≡ true
-below_none x none = grind (arith, nat_tests, none, below_members 64 x)
+pub below_none : (n x : ℕ) → x ≡ 0 → below n x ≡ true
+below_none n x none = grind (arith, nat_tests, none, none_members 0, below_members n x)
 
 pub none_within : (x y : ℕ) → ((k : ℕ) → member x k ≡ false) → subset x y ≡ true
 none_within x y none = grind (arith, nat_tests, none, subset_members x y)
@@ -53,7 +54,7 @@ greater x y s n = ⊎_elim (λ less. less) (λ more. absurd (both_ways (subset y
     same i = ap (λ z. subset z x) (sym i)
 
 -- ---- a set, and the same with one number more
-module _ (x more number : ℕ) (e : (k : ℕ) → member more k ≡ (member x k || (number == k && fits k))) where
+module _ (x more number : ℕ) (e : With x number more) where
   pub subset_with : subset x more ≡ true
   subset_with = grind (arith, nat_tests, e, subset_members x more)
 
@@ -71,14 +72,15 @@ module _ (x more number : ℕ) (e : (k : ℕ) → member more k ≡ (member x k 
       (greater x more subset_with (not_within more x number (grind (arith, nat_tests, e, l)) a), below_mask more (below_with b))
 
 -- ---- how much is undecided: it falls as a set of numbers that are settled grows
-abbrev pub undecided : ℕ → ℕ → ℕ
-undecided chosen out = (2 ^ 64 - chosen) + (2 ^ 64 - out)
+abbrev pub undecided : Branch → ℕ
+undecided branch = (2 ^ 64 - branch.chosen) + (2 ^ 64 - branch.out)
 
-pub fewer_chosen : (x y z : ℕ) → subset x y ≡ true → undecided y z ≤ undecided x z
-fewer_chosen x y z s = omega (arith, part_at_most x y s)
+module _ (before after : Branch) where
+  pub fewer_chosen : after.out ≡ before.out → subset before.chosen after.chosen ≡ true → undecided after ≤ undecided before
+  fewer_chosen e s = omega (arith, e, part_at_most before.chosen after.chosen s)
 
-pub falls_chosen : (x y z : ℕ) → x < y → y < 2 ^ 64 → undecided y z < undecided x z
-falls_chosen x y z l b = omega (arith, l, b)
+  pub falls_chosen : after.out ≡ before.out → before.chosen < after.chosen → after.chosen < 2 ^ 64 → undecided after < undecided before
+  falls_chosen e l b = omega (arith, e, l, b)
 
-pub falls_out : (x y z : ℕ) → y < z → z < 2 ^ 64 → undecided x z < undecided x y
-falls_out x y z l b = omega (arith, l, b)
+  pub falls_out : after.chosen ≡ before.chosen → before.out < after.out → after.out < 2 ^ 64 → undecided after < undecided before
+  falls_out e l b = omega (arith, e, l, b)

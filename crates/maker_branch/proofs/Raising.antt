@@ -7,7 +7,7 @@ use Rattle.terms.proofs.MaskLaws.{intersect_members}
 use Rattle.std.proofs.lemmas.Bool.Decides.{nat_tests}
 use Rattle.weights.specs.Costs.{cost}
 use Rattle.weights.specs.Kinds.{Kind, Laws}
-use Rattle.maker_branch.specs.Loads.{AllWithin, Bears}
+use Rattle.maker_branch.specs.Loads.{AllMeet, AllWithin, Bears, Borne}
 use Rattle.weights.proofs.SumLaws.{le_self, more_both}
 
 -- a set that meets another has one of the other's members
@@ -24,7 +24,7 @@ module _ {W : Type 0} (K : Kind W) (weights : List W) (these : ℕ → Bool) (am
     pub within : AllWithin K loads weights
     pub owed : (set : ℕ) → these set ≡ true → K.le (cond (list_any (member set) rest) (K.value total) (K.plus (K.value total) amount)) (cost K loads set) ≡ true
 
-  pub raising : (total : W) (set : ℕ) (ks : List ℕ) (loads : List W) → ((k : ℕ) → member set k ≡ list_any (λ j. j == k) ks) → ((other : ℕ) → these other ≡ true → intersect set other ≡ true)
+  pub raising : (total : W) (set : ℕ) (ks : List ℕ) (loads : List W) → ((k : ℕ) → member set k ≡ list_any (λ j. j == k) ks) → AllMeet set these
       → Bears K weights these loads total → Owing total ks loads
   raising total set ks loads e meet b = record {
     within = b.within;
@@ -51,24 +51,22 @@ module _ {W : Type 0} (K : Kind W) (laws : Laws K) (weights : List W) (these : �
       most false = le_self laws (K.plus x amount)
 
   module _ (total : W) (loads new : List W) where
-    pub raised_one : (r : Bool) (number : ℕ) (items rest : List ℕ) → items ≡ number ∷ rest → r ≡ true → (AllWithin K loads weights → AllWithin K new weights)
-        → ((set : ℕ) → cost K new set ≡ cond (r && member set number) (K.plus (cost K loads set) amount) (cost K loads set))
+    pub raised_one : (r : Bool) (number : ℕ) (items rest : List ℕ) → items ≡ number ∷ rest → r ≡ true → Borne K weights number amount r loads new
         → Owing K weights these amount total items loads → Owing K weights these amount total rest new
-    raised_one r number items rest i s w e o = record {
-      within = w o.within;
+    raised_one r number items rest i s b o = record {
+      within = b.within o.within;
       owed = λ set t. step (member set number) (list_any (member set) rest) (K.value total) (cost K loads set) (cost K new set)
-          (subst (λ b. cost K new set ≡ cond (b && member set number) (K.plus (cost K loads set) amount) (cost K loads set)) s (e set))
+          (subst (λ r. cost K new set ≡ cond (r && member set number) (K.plus (cost K loads set) amount) (cost K loads set)) s (b.costs set))
           (subst (λ ks. K.le (cond (list_any (member set) ks) (K.value total) (K.plus (K.value total) amount)) (cost K loads set) ≡ true) i (o.owed set t));
     }
 
     -- where it stops early, the total stays
-    pub raised_none : (r : Bool) (number : ℕ) (items : List ℕ) → r ≡ false → (AllWithin K loads weights → AllWithin K new weights)
-        → ((set : ℕ) → cost K new set ≡ cond (r && member set number) (K.plus (cost K loads set) amount) (cost K loads set))
+    pub raised_none : (r : Bool) (number : ℕ) (items : List ℕ) → r ≡ false → Borne K weights number amount r loads new
         → Owing K weights these amount total items loads → Bears K weights these new total
-    raised_none r number items s w e o = record {
-      within = w o.within;
+    raised_none r number items s b o = record {
+      within = b.within o.within;
       enough = λ set t. subst (λ v. K.le (K.value total) v ≡ true)
-          (sym (subst (λ b. cost K new set ≡ cond (b && member set number) (K.plus (cost K loads set) amount) (cost K loads set)) s (e set)))
+          (sym (subst (λ r. cost K new set ≡ cond (r && member set number) (K.plus (cost K loads set) amount) (cost K loads set)) s (b.costs set)))
           (either (list_any (member set) items) (K.value total) (cost K loads set) (o.owed set t));
     }
 

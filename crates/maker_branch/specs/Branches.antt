@@ -1,29 +1,33 @@
--- The branches of a search for a least cover.
-use Rattle.std.specs.Prelude.{◌≡◌, ℕ, Bool, true, not, ◌&&◌}
-use Rattle.terms.specs.Masks.{subset, intersect}
-use Rattle.weights.specs.Costs.{cost}
-use Rattle.weights.specs.Kinds.{Kind}
+-- The branches of a search for a least cover, and which sets are in one.
+use Rattle.std.specs.Prelude.{◌≡◌, ℕ, Bool, true, false, not, ◌&&◌, ◌||◌, ◌==◌}
+use Rattle.terms.specs.Masks.{member, subset, intersect}
+use Rattle.terms.specs.Sets.{fits}
 use Rattle.makers.specs.Meanings.{MakerMeaning}
 use Rattle.makers.specs.Covers.{is_cover}
+use Rattle.maker_branch.specs.declared.branches.Branch.{Branch}
 
 -- every chosen number is in the set, and none that was left out
-abbrev pub has_settled : ℕ → ℕ → ℕ → Bool
-has_settled chosen out set = subset chosen set && not (intersect out set)
+abbrev pub has_settled : Branch → ℕ → Bool
+has_settled branch set = subset branch.chosen set && not (intersect branch.out set)
 
--- the covers of a branch
-abbrev pub in_branch : {W : Type 0} → MakerMeaning W → ℕ → ℕ → ℕ → Bool
-in_branch m chosen out set = is_cover m set && has_settled chosen out set
+-- the covers of the branch
+abbrev pub in_branch : {W : Type 0} → MakerMeaning W → Branch → ℕ → Bool
+in_branch m branch set = is_cover m set && has_settled branch set
 
 -- such sets that have a member in common with the core, be they covers or not
-abbrev pub meets_in : ℕ → ℕ → ℕ → ℕ → Bool
-meets_in chosen out core set = intersect set core && has_settled chosen out set
+abbrev pub meets_in : Branch → ℕ → ℕ → Bool
+meets_in branch core set = intersect set core && has_settled branch set
 
--- no cover of the branch costs less than v
-abbrev pub NoneBelow : {W : Type 0} (K : Kind W) (m : MakerMeaning W) → ℕ → ℕ → K.V → Type 0
-NoneBelow K m chosen out v = (set : ℕ) → in_branch m chosen out set ≡ true → K.le v (cost K m.weights set) ≡ true
+-- there is none
+abbrev pub NoneOf : (ℕ → Bool) → Type 0
+NoneOf these = (set : ℕ) → these set ≡ false
 
--- r is a cover that costs no more than the best in hand, and no more than any of the branch
-pub record Best {W : Type 0} (K : Kind W) (m : MakerMeaning W) (chosen out best r : ℕ) : Type 0 where
-  pub cover : is_cover m r ≡ true
-  pub than_best : K.le (cost K m.weights r) (cost K m.weights best) ≡ true
-  pub than_others : NoneBelow K m chosen out (cost K m.weights r)
+-- the set with number k as well, if a set can have it
+abbrev pub With : ℕ → ℕ → ℕ → Type 0
+With set k more = (j : ℕ) → member more j ≡ (member set j || (k == j && fits j))
+
+-- more numbers are chosen, all of which each of these sets has
+pub record Forced (these : ℕ → Bool) (branch more : Branch) : Type 0 where
+  pub out : more.out ≡ branch.out
+  pub chosen : subset branch.chosen more.chosen ≡ true
+  pub forced : (set : ℕ) → these set ≡ true → subset more.chosen set ≡ true

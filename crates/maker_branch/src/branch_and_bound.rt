@@ -3,23 +3,27 @@ ghost use Rattle.std.specs.Prelude.{◌≡◌, IfOk, true};
 ghost use Rattle.makers.specs.Covers.{is_cover, Minimal};
 ghost use Rattle.makers.specs.Meanings.{fresh, Limited};
 
+use crate::branches::Branch;
+use crate::greedy::quick_cover;
 use crate::lower_bounds::LowerBound;
 use crate::multiples::times;
-use crate::greedy::quick_cover;
+use core_store::Store;
 use makers::CoverMaker;
 use std::alloc::{AllocError, Global};
-use core_store::Store;
 use terms::limits::SOFT_PLACES;
 use terms::{Refusal, SoftSet};
 use weights::WeightKind;
 
-/// A cover maker for up to 64 weights.
+/// How many weights of a heavy number are together at least as heavy as the heaviest one: tuned on bench, no promise.
+const HEAVY_TIMES: u32 = 16;
+
+/// A cover maker for up to `SOFT_PLACES` weights.
 #[derive(Debug, Drop)]
 pub struct BranchAndBoundMaker<W: WeightKind> {
     pub(crate) store: Store<W>,
-    /// A bound without loads, which knows the lightest weight. It shows too that a floor of this kind has a size.
+    /// A lower bound without loads, which knows the lightest weight. It shows too that one of this kind has a size.
     pub(crate) blank: LowerBound<W>,
-    /// The numbers of which sixteen weights together are at least as heavy as the heaviest one.
+    /// The numbers of which `HEAVY_TIMES` weights together are at least as heavy as the heaviest one.
     pub(crate) heavy: SoftSet,
     ghost limited: { Limited W.kind store },
 }
@@ -29,7 +33,7 @@ impl<W: WeightKind> BranchAndBoundMaker<W> {
 
     /// A maker without weights and cores. All its memory is reserved here.
     pub fn new(alloc: Global) -> Result<Self, AllocError>
-        ensures { IfOk result (λ maker. maker_meaning maker ≡ fresh 64) }
+        ensures { IfOk result (λ maker. maker_meaning maker ≡ fresh SOFT_PLACES) }
     {
         Ok(BranchAndBoundMaker {
             store: Store::new(alloc, SOFT_PLACES)?,
@@ -47,7 +51,7 @@ impl<W: WeightKind> BranchAndBoundMaker<W> {
         let heaviest = weights.iter().copied().max().unwrap_or(W::zero());
         let mut heavy = SoftSet::empty();
         for (number, weight) in weights.iter().enumerate() {
-            if times(*weight, 16).is_none_or(|sixteen| heaviest <= sixteen) {
+            if times(*weight, HEAVY_TIMES).is_none_or(|several| heaviest <= several) {
                 heavy = heavy.insert(number);
             }
         }
@@ -99,8 +103,7 @@ impl<W: WeightKind> CoverMaker for BranchAndBoundMaker<W> {
         quick_cover(&self.store)
     }
 
-    #[tactic(auto, using(crate::proofs::Members::below_none))]
     fn least_cover(&self) -> SoftSet {
-        self.narrow(SoftSet::empty(), SoftSet::empty(), self.cover())
+        self.narrow(&Branch::all(), self.cover())
     }
 }

@@ -3,8 +3,10 @@ ghost use Rattle.std.specs.Prelude.{◌≡◌, ℕ, ◌<◌, true, false, IfSome
 ghost use Rattle.terms.specs.Masks.{member, subset};
 ghost use Rattle.makers.specs.Covers.{is_cover, Minimal};
 ghost use Rattle.makers.specs.Meanings.{Limited};
+ghost use Rattle.maker_branch.specs.Branches.{NoneOf};
 ghost use Rattle.maker_branch.specs.Scores.{is_left};
 
+use crate::branches::Branch;
 use crate::multiples::times;
 use crate::scores::Scores;
 use core_store::Store;
@@ -43,7 +45,7 @@ fn thinned<W: WeightKind>(store: &Store<W>, cover: SoftSet) -> SoftSet
 
 /// The heaviest number of the set.
 fn heaviest<W: WeightKind>(weights: &[W], set: SoftSet) -> Option<usize>
-    ensures none { IsNone result → (k : ℕ) → member set k ≡ false }
+    ensures none { IsNone result → NoneOf (member set) }
     ensures member { IfSome result (λ number. member set number ≡ true) }
 {
     let mut heaviest = set.first()?;
@@ -61,19 +63,19 @@ fn greedy<W: WeightKind>(store: &Store<W>) -> SoftSet
     requires { Limited W.kind store.now }
     ensures { is_cover store.now result ≡ true }
 {
-    let mut taken = SoftSet::empty();
-    while let Some(number) = most_worth(store, taken) {
-        taken = taken.insert(number);
+    let mut branch = Branch::all();
+    while let Some(number) = most_worth(store, &branch) {
+        branch = branch.with(number);
     }
-    taken
+    branch.chosen
 }
 
-/// The number that meets most cores for its weight, of those that the numbers taken do not meet.
-fn most_worth<W: WeightKind>(store: &Store<W>, taken: SoftSet) -> Option<usize>
-    ensures none { IsNone result → (k : ℕ) → is_left store.now taken 0 k ≡ false }
-    ensures member { IfSome result (λ number. is_left store.now taken 0 number ≡ true) }
+/// The number that meets most open cores for its weight.
+fn most_worth<W: WeightKind>(store: &Store<W>, branch: &Branch) -> Option<usize>
+    ensures none { IsNone result → NoneOf (is_left store.now branch.now) }
+    ensures member { IfSome result (λ number. is_left store.now branch.now number ≡ true) }
 {
-    let hits = Scores::of(store, taken, SoftSet::empty(), |_| 1);
+    let hits = Scores::of(store, branch, |_| 1);
     let mut best = hits.left.first()?;
     for number in hits.left.members() {
         if pays_more(store.weights(), &hits, number, best) {

@@ -1,13 +1,12 @@
 //! Loads on soft numbers, and what they say of covers.
-ghost use Rattle.std.specs.Prelude.{◌≡◌, ℕ, ◌<◌, Bool, true, not, List, ◌&&◌, if◌then◌else◌, IfSome, length};
-ghost use Rattle.terms.specs.Masks.{member, intersect};
-ghost use Rattle.weights.specs.Costs.{cost};
-ghost use Rattle.maker_branch.specs.Branches.{in_branch};
-ghost use Rattle.maker_branch.specs.Loads.{value_at, AllWithin, Bears};
+ghost use Rattle.std.specs.Prelude.{◌≡◌, ℕ, Bool, true, not, List, IfSome};
+ghost use Rattle.terms.specs.Masks.{intersect};
+ghost use Rattle.maker_branch.specs.Loads.{AllHave, AllMeet, BearFor, BearIn, Borne, Raised, StillBear};
 
+use crate::branches::Branch;
 use core_store::Store;
-use terms::limits::SOFT_PLACES;
 use terms::SoftSet;
+use terms::limits::SOFT_PLACES;
 use weights::WeightKind;
 
 /// A load on each soft number, no more than its weight. A core puts an amount on all numbers that are left of it, of which every
@@ -26,7 +25,7 @@ pub(crate) struct Loads<W: WeightKind> {
 impl<W: WeightKind> Loads<W> {
     /// No loads yet.
     pub(crate) fn new(lightest: W) -> Loads<W>
-        ensures { (weights : List W) → (these : ℕ → Bool) → Bears W.kind weights these result.loads result.total }
+        ensures { (weights : List W) → (these : ℕ → Bool) → BearFor W.kind weights these result }
     {
         Loads {
             loads: [W::zero(); SOFT_PLACES],
@@ -37,11 +36,11 @@ impl<W: WeightKind> Loads<W> {
     }
 
     /// On each chosen number its whole weight.
-    pub(crate) fn of_chosen(store: &Store<W>, chosen: SoftSet, lightest: W) -> Loads<W>
-        ensures { (out : ℕ) → Bears W.kind store.now.weights (in_branch store.now chosen out) result.loads result.total }
+    pub(crate) fn of_chosen(store: &Store<W>, branch: &Branch, lightest: W) -> Loads<W>
+        ensures { BearIn W.kind store.now branch.now result }
     {
         let mut loads = Loads::new(lightest);
-        for number in chosen.members() {
+        for number in branch.chosen.members() {
             loads.choose(store, number);
         }
         loads
@@ -49,20 +48,18 @@ impl<W: WeightKind> Loads<W> {
 
     /// Puts its whole weight on the number, which each of these covers has.
     pub(crate) fn choose(&mut self, store: &Store<W>, number: usize)
-        ensures { (these : ℕ → Bool) → Bears W.kind store.now.weights these self.old.loads self.old.total
-            → ((set : ℕ) → these set ≡ true → member set number ≡ true)
-            → Bears W.kind store.now.weights these self.new.loads self.new.total }
+        ensures { StillBear W.kind store.now.weights (AllHave number) self.old self.new }
     {
         let alone = SoftSet::empty().insert(number);
         if let Some(weight) = store.weights().get(number) {
-            // No set has a number from 64 on.
+            // No set has a number from `SOFT_PLACES` on.
             if alone.has(number) {
                 self.raise(store, alone, *weight);
             }
         }
     }
 
-    /// Whether the total is what is enough, or more.
+    /// Whether the total is the best cost, or more.
     pub(crate) fn reaches(&self, best_cost: W) -> bool
         ensures { result ≡ W.kind.le (W.kind.value best_cost) (W.kind.value self.now.total) }
     {
@@ -102,7 +99,7 @@ impl<W: WeightKind> Loads<W> {
             .all(|number| self.raised(store, number, amount).is_some())
     }
 
-    /// Whether it seems that covers with this number cost what is enough: the total and what the number can still bear do.
+    /// Whether it seems that covers with this number cost as much as the best: the total and what the number can still bear do.
     pub(crate) fn seems_dear(&self, store: &Store<W>, number: usize, best_cost: W) -> bool {
         let (Some(load), Some(weight)) = (self.loads.get(number), store.weights().get(number))
         else {
@@ -117,9 +114,7 @@ impl<W: WeightKind> Loads<W> {
     /// Puts the amount on each number of the set, of which each of these covers has one, and counts it once. Where a number
     /// cannot bear it, nothing is counted, and the others may keep it.
     pub(crate) fn raise(&mut self, store: &Store<W>, set: SoftSet, amount: W)
-        ensures { (these : ℕ → Bool) → Bears W.kind store.now.weights these self.old.loads self.old.total
-            → ((other : ℕ) → these other ≡ true → intersect set other ≡ true)
-            → Bears W.kind store.now.weights these self.new.loads self.new.total }
+        ensures { StillBear W.kind store.now.weights (AllMeet set) self.old self.new }
     {
         for number in set.members() {
             if !self.bear(store, number, amount) {
@@ -132,12 +127,10 @@ impl<W: WeightKind> Loads<W> {
     }
 
     /// Puts the amount on the number, if it can bear that.
-    #[tactic(auto, using(crate::proofs::LoadLaws::set_within, crate::proofs::LoadLaws::cost_borne))]
+    #[tactic(auto, using(crate::proofs::LoadLaws::not_borne))]
     fn bear(&mut self, store: &Store<W>, number: usize, amount: W) -> bool
         ensures total { self.new.total ≡ self.old.total }
-        ensures within { AllWithin W.kind self.old.loads store.now.weights → AllWithin W.kind self.new.loads store.now.weights }
-        ensures costs { (set : ℕ) → cost W.kind self.new.loads set ≡
-            (if result && member set number then W.kind.plus (cost W.kind self.old.loads set) (W.kind.value amount) else cost W.kind self.old.loads set) }
+        ensures loads { Borne W.kind store.now.weights number (W.kind.value amount) result self.old.loads self.new.loads }
     {
         let Some(load) = self.raised(store, number, amount) else {
             return false;
@@ -160,9 +153,7 @@ impl<W: WeightKind> Loads<W> {
     /// The load of the number with the amount more, if it can bear that.
     #[tactic(auto, using(crate::proofs::LoadLaws::value_at_index))]
     fn raised(&self, store: &Store<W>, number: usize, amount: W) -> Option<W>
-        ensures fits { IfSome result (λ _. number < length self.now.loads) }
-        ensures sum { IfSome result (λ load. W.kind.value load ≡ W.kind.plus (value_at W.kind self.now.loads number) (W.kind.value amount)) }
-        ensures within { IfSome result (λ load. W.kind.le (W.kind.value load) (value_at W.kind store.now.weights number) ≡ true) }
+        ensures { IfSome result (Raised W.kind store.now.weights self.now.loads number (W.kind.value amount)) }
     {
         let load = self.loads.get(number)?.sum(amount)?;
         at_most(load, *store.weights().get(number)?)

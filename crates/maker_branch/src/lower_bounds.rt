@@ -1,29 +1,28 @@
-//! Floors under the costs of the covers of a branch.
-ghost use Rattle.std.specs.Prelude.{◌≡◌, ℕ, true, IfSome};
-ghost use Rattle.terms.specs.Masks.{member, subset, intersect};
-ghost use Rattle.weights.specs.Costs.{cost};
+//! Lower bounds of what the covers of a branch cost.
+ghost use Rattle.std.specs.Prelude.{◌≡◌, IfSome, IsTrue};
 ghost use Rattle.maker_branch.specs.Branches.{in_branch};
-ghost use Rattle.maker_branch.specs.Loads.{Bears};
+ghost use Rattle.maker_branch.specs.Loads.{AllMeet, BearIn};
+ghost use Rattle.maker_branch.specs.LowerBounds.{DearWith};
 
+use crate::branches::Branch;
 use crate::loads::Loads;
 use crate::order::Order;
-use crate::scores::Scores;
 use core_store::Store;
-use terms::limits::CORE_PLACES;
 use terms::SoftSet;
+use terms::limits::CORE_PLACES;
 use weights::WeightKind;
 
-/// How many amounts are kept.
-const RAISES: usize = 64;
+/// How many amounts are kept: tuned on bench, no promise.
+const MOST_RAISES: usize = 64;
 
-/// An amount that was put on what was left of the core at this index.
+/// An amount that was put on what was left of the core with this index.
 #[derive(Clone, Copy, Debug)]
 pub(crate) struct Raise<W: WeightKind> {
     pub(crate) index: usize,
     pub(crate) amount: W,
 }
 
-/// Loads of a branch, whose total is a floor under the costs of its covers, and the amounts in the order in which they came.
+/// Loads of a branch, whose total is at most what each of its covers costs, and the amounts in the order in which they came.
 #[derive(Debug, Drop)]
 pub(crate) struct LowerBound<W: WeightKind> {
     /// The loads of the chosen numbers alone.
@@ -31,7 +30,7 @@ pub(crate) struct LowerBound<W: WeightKind> {
     /// The loads of the cores too.
     pub(crate) loads: Loads<W>,
     /// The first amounts, as many as there is room for.
-    raises: [Raise<W>; RAISES],
+    raises: [Raise<W>; MOST_RAISES],
     /// How many of them there are.
     count: usize,
 }
@@ -49,23 +48,22 @@ impl<W: WeightKind> LowerBound<W> {
         LowerBound {
             base,
             loads: base,
-            raises: [none; RAISES],
+            raises: [none; MOST_RAISES],
             count: 0,
         }
     }
 
-    /// The bound of a branch. It goes up only while it is below what is enough.
+    /// The lower bound of a branch. It goes up only while it is below the best cost.
     pub(crate) fn of(
         store: &Store<W>,
-        chosen: SoftSet,
-        out: SoftSet,
+        branch: &Branch,
         base: Loads<W>,
         mut order: Order,
         best_cost: W,
     ) -> LowerBound<W>
-        requires { Bears W.kind store.now.weights (in_branch store.now chosen out) base.loads base.total }
+        requires { BearIn W.kind store.now branch.now base }
         ensures base { result.base ≡ base }
-        ensures loads { Bears W.kind store.now.weights (in_branch store.now chosen out) result.loads.loads result.loads.total }
+        ensures loads { BearIn W.kind store.now branch.now result.loads }
     {
         let mut bound = LowerBound::new(base.lightest);
         bound.base = base;
@@ -77,18 +75,17 @@ impl<W: WeightKind> LowerBound<W> {
             let Some(index) = order.take_first() else {
                 break;
             };
-            bound.put_on(store, out, index);
+            bound.put_on(store, branch, index);
         }
         bound
     }
 
-    /// Puts on what is left of the core at this index the heaviest weight that it can bear.
-    fn put_on(&mut self, store: &Store<W>, out: SoftSet, index: usize)
+    /// Puts on what is left of the core the heaviest weight that it can bear.
+    fn put_on(&mut self, store: &Store<W>, branch: &Branch, index: usize)
         ensures base { self.new.base ≡ self.old.base }
-        ensures loads { (chosen : ℕ) → Bears W.kind store.now.weights (in_branch store.now chosen out) self.old.loads.loads self.old.loads.total
-            → Bears W.kind store.now.weights (in_branch store.now chosen out) self.new.loads.loads self.new.loads.total }
+        ensures loads { BearIn W.kind store.now branch.now self.old.loads → BearIn W.kind store.now branch.now self.new.loads }
     {
-        let Some(rest) = left_of(store, out, index) else {
+        let Some(rest) = left_of(store, branch, index) else {
             return;
         };
         if self.loads.has_room(rest) {
@@ -109,23 +106,22 @@ impl<W: WeightKind> LowerBound<W> {
         }
     }
 
-    /// Whether covers that have this number too, and nothing of `out`, cost what is enough: the same raises show it, without
-    /// the cores that have the number.
+    /// Whether covers of the branch that have this number cost as much as the best: the same raises show it, without the cores
+    /// that have the number.
     pub(crate) fn is_dear_with(
         &self,
         store: &Store<W>,
-        out: SoftSet,
+        branch: &Branch,
         number: usize,
         best_cost: W,
     ) -> bool
-        ensures { (chosen wider : ℕ) → Bears W.kind store.now.weights (in_branch store.now chosen wider) self.now.base.loads self.now.base.total
-            → subset wider out ≡ true → (set : ℕ) → in_branch store.now chosen out set ≡ true → member set number ≡ true → result ≡ true
-            → W.kind.le (W.kind.value best_cost) (cost W.kind store.now.weights set) ≡ true }
+        requires { BearIn W.kind store.now branch.now self.now.base }
+        ensures { IsTrue result → DearWith W.kind store.now branch.now number best_cost }
     {
         let mut loads = self.base;
         loads.choose(store, number);
         for raise in self.raises.iter().take(self.count) {
-            if let Some(rest) = left_of(store, out, raise.index) {
+            if let Some(rest) = left_of(store, branch, raise.index) {
                 if !rest.has(number) {
                     loads.raise(store, rest, raise.amount);
                 }
@@ -135,10 +131,10 @@ impl<W: WeightKind> LowerBound<W> {
     }
 }
 
-/// What is left of the core at this index: each cover of a branch without the numbers left out has some of it.
+/// What is left of the core with this index: each cover of the branch has some of it.
 #[tactic(auto, using(crate::proofs::BranchLaws::left_met))]
-fn left_of<W: WeightKind>(store: &Store<W>, out: SoftSet, index: usize) -> Option<SoftSet>
-    ensures { IfSome result (λ rest. (chosen set : ℕ) → in_branch store.now chosen out set ≡ true → intersect rest set ≡ true) }
+fn left_of<W: WeightKind>(store: &Store<W>, branch: &Branch, index: usize) -> Option<SoftSet>
+    ensures { IfSome result (λ rest. AllMeet rest (in_branch store.now branch.now)) }
 {
-    Some(store.cores().get(index)?.minus(out))
+    Some(store.cores().get(index)?.minus(branch.out))
 }

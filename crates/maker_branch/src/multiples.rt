@@ -1,6 +1,6 @@
 //! A weight taken several times.
-ghost use Rattle.std.specs.Prelude.{◌≡◌, ◌<◌, ◌^◌, IfSome};
-ghost use Rattle.maker_branch.specs.Multiples.{times};
+ghost use Rattle.std.specs.Prelude.{◌<◌, ◌^◌, IfSome};
+ghost use Rattle.maker_branch.specs.Multiples.{Multiple};
 
 use weights::WeightKind;
 
@@ -9,7 +9,7 @@ const DIGITS: u32 = 10;
 
 /// The weight so many times, if it can be held.
 pub(crate) fn times<W: WeightKind>(weight: W, count: u32) -> Option<W>
-    ensures { count < 2 ^ DIGITS → IfSome result (λ product. W.kind.value product ≡ times W.kind (W.kind.value weight) count) }
+    ensures { count < 2 ^ DIGITS → IfSome result (Multiple W.kind weight count) }
 {
     let mut product = W::zero();
     for digit in (0..DIGITS).rev() {

@@ -1,10 +1,11 @@
 //! In which order the cores of a branch put loads on their numbers.
 ghost use Rattle.std.specs.Prelude.{◌<◌, IfSome};
 
+use crate::branches::Branch;
 use crate::scores::Scores;
 use core_store::Store;
-use terms::limits::CORE_PLACES;
 use terms::SoftSet;
+use terms::limits::CORE_PLACES;
 use weights::WeightKind;
 
 /// How many keys there are for cores with only heavy numbers left, and for the others: tuned on bench, no promise.
@@ -35,8 +36,7 @@ impl Order {
     /// both kinds those whose numbers have a lower sum of scores come first: they hinder fewer others.
     pub(crate) fn of<W: WeightKind>(
         store: &Store<W>,
-        chosen: SoftSet,
-        out: SoftSet,
+        branch: &Branch,
         scores: &Scores,
         heavy: SoftSet,
     ) -> Order {
@@ -46,8 +46,8 @@ impl Order {
             key: 0,
         };
         for (index, core) in store.cores().iter().enumerate() {
-            if !core.intersects(chosen) {
-                order.push(key(core.minus(out), scores, heavy), index);
+            if !core.intersects(branch.chosen) {
+                order.push(key(core.minus(branch.out), scores, heavy), index);
             }
         }
         order

@@ -1,11 +1,13 @@
 //! How much each soft number would do.
 ghost use Rattle.std.specs.Prelude.{◌≡◌, ℕ, ◌≤◌, true, false, ◌||◌, IfSome, IsNone, slice_index_or};
 ghost use Rattle.terms.specs.Masks.{member};
-ghost use Rattle.maker_branch.specs.Scores.{is_left};
+ghost use Rattle.maker_branch.specs.Branches.{NoneOf};
+ghost use Rattle.maker_branch.specs.Scores.{is_left, Highest};
 
+use crate::branches::Branch;
 use core_store::Store;
-use terms::limits::SOFT_PLACES;
 use terms::SoftSet;
+use terms::limits::SOFT_PLACES;
 use weights::WeightKind;
 
 /// A score for each soft number.
@@ -30,17 +32,16 @@ impl Scores {
     /// What is left of a core is worth so much to each of its numbers.
     pub(crate) fn of<W: WeightKind, F: Fn(SoftSet) -> u32>(
         store: &Store<W>,
-        chosen: SoftSet,
-        out: SoftSet,
+        branch: &Branch,
         worth: F,
     ) -> Scores
         requires { F.IsAlwaysCallable worth }
-        ensures { (k : ℕ) → member result.left k ≡ is_left store.now chosen out k }
+        ensures { (k : ℕ) → member result.left k ≡ is_left store.now branch.now k }
     {
         let mut scores = Scores::new();
         for core in store.cores() {
-            if !core.intersects(chosen) {
-                let rest = core.minus(out);
+            if !core.intersects(branch.chosen) {
+                let rest = core.minus(branch.out);
                 scores.add(rest, worth(rest));
             }
         }
@@ -57,7 +58,7 @@ impl Scores {
         self.left = self.left.union(set);
     }
 
-    /// The score of the number; numbers from 64 on have none.
+    /// The score of the number; numbers from `SOFT_PLACES` on have none.
     pub(crate) fn of_number(&self, number: usize) -> u32
         ensures { result ≡ slice_index_or self.now.scores number 0 }
     {
@@ -66,10 +67,9 @@ impl Scores {
 
     /// The number with the highest score.
     pub(crate) fn best(&self) -> Option<usize>
-        ensures none { IsNone result → (k : ℕ) → member self.now.left k ≡ false }
+        ensures none { IsNone result → NoneOf (member self.now.left) }
         ensures member { IfSome result (λ number. member self.now.left number ≡ true) }
-        ensures most { IfSome result (λ number. (k : ℕ) → member self.now.left k ≡ true
-            → slice_index_or self.now.scores k 0 ≤ slice_index_or self.now.scores number 0) }
+        ensures most { IfSome result (Highest self.now.scores self.now.left) }
     {
         let mut best = self.left.first()?;
         for number in self.left.members() {

@@ -3,5 +3,4 @@ use Rattle.maker_branch.proofs.branch_and_bound.BranchAndBoundMakerCoverMaker.le
 
 pub returns : goal.returns
 returns g c =
-    best_of_all g.W.WeightKind.kind g.met.W.WeightKind.laws c.args.self.now.store c.empty.result c.empty-2.result c.cover.result c.narrow.result c.empty.ensures.members c.empty-2.ensures.members
-    c.narrow.ensures
+    best_of_all g.W.WeightKind.kind g.met.W.WeightKind.laws c.args.self.now.store c.all.result c.cover.result c.narrow.result c.all.ensures.chosen c.all.ensures.out c.narrow.ensures

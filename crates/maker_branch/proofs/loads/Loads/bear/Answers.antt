@@ -1,8 +1,7 @@
-use Rattle.maker_branch.proofs.LoadLaws.{cost_borne}
+use Rattle.maker_branch.proofs.LoadLaws.{borne}
 use Rattle.maker_branch.proofs.loads.Loads.bear.Goals as goal
 
-pub returns-clause-costs : goal.returns-clause-costs
-returns-clause-costs g c set =
+pub returns-clause-loads : goal.returns-clause-loads
+returns-clause-loads g c =
     rw c.note_if_full.ensures.loads
-    (cost_borne g.W.WeightKind.kind g.met.W.WeightKind.laws c.args.self.now.loads c.args.number c.in-Some.load (g.W.WeightKind.kind.value c.args.amount) set
-    c.in-Some.ensures.fits c.in-Some.ensures.sum)
+    (borne g.W.WeightKind.kind g.met.W.WeightKind.laws c.args.store.now.weights c.args.self.now.loads c.args.number (g.W.WeightKind.kind.value c.args.amount) c.in-Some.load c.in-Some.ensures)

@@ -14,13 +14,13 @@ pub returns-then-not-bear : goal.returns-then-not-bear
 returns-then-not-bear g c these b meet =
     rw (c.bear.ensures.total ∙ c.loop-number.invariant.0)
     (raised_none g.W.WeightKind.kind g.met.W.WeightKind.laws c.args.store.now.weights these _ _ c.loop-number.self.loads _ c.bear.result c.in-Some.number _ c.if-not-bear.true
-    c.bear.ensures.within c.bear.ensures.costs (c.loop-number.invariant.1 these b meet))
+    c.bear.ensures.loads (c.loop-number.invariant.1 these b meet))
 
 pub loop-number-preserved : goal.loop-number-preserved
 loop-number-preserved g c = (
   c.bear.ensures.total ∙ c.loop-number.invariant.0,
   λ these b meet. raised_one g.W.WeightKind.kind g.met.W.WeightKind.laws c.args.store.now.weights these _ _ c.loop-number.self.loads _ c.bear.result c.in-Some.number _ _
-      c.in-Some.ensures.steps c.if-not-bear.false c.bear.ensures.within c.bear.ensures.costs (c.loop-number.invariant.1 these b meet),
+      c.in-Some.ensures.steps c.if-not-bear.false c.bear.ensures.loads (c.loop-number.invariant.1 these b meet),
 )
 
 pub returns-in-Some-sum : goal.returns-in-Some-sum

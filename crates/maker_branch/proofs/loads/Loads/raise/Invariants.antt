@@ -1,6 +1,5 @@
-use Rattle.std.proofs.Common.{◌≡◌, ℕ, Bool, true}
-use Rattle.terms.specs.Masks.{intersect}
-use Rattle.maker_branch.specs.Loads.{Bears}
+use Rattle.std.proofs.Common.{◌≡◌, ℕ, Bool}
+use Rattle.maker_branch.specs.Loads.{AllMeet, BearFor}
 use Rattle.maker_branch.proofs.Raising.{Owing}
 use Rattle.maker_branch.proofs.loads.Loads.raise.Given as goal
 
@@ -9,5 +8,5 @@ abbrev pub invariant-loop-number : goal.invariant-loop-number
 invariant-loop-number g l =
     let K = g.W.WeightKind.kind in
     (l.self.total ≡ l.fn.self.total)
-    × ((these : ℕ → Bool) → Bears K l.store.weights these l.fn.self.loads l.fn.self.total → ((other : ℕ) → these other ≡ true → intersect l.fn.set other ≡ true)
+    × ((these : ℕ → Bool) → BearFor K l.store.weights these l.fn.self → AllMeet l.fn.set these
     → Owing K l.store.weights these (K.value l.amount) l.fn.self.total l.number-iterator l.self.loads)

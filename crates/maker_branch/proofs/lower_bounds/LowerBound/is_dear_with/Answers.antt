@@ -1,28 +1,28 @@
-use Rattle.std.proofs.Common.{ℕ, ◌&&◌, sym, ◌∙◌}
+use Rattle.std.proofs.Common.{ℕ, sym, ◌∙◌}
 use Rattle.terms.specs.Masks.{member}
 use Rattle.maker_branch.specs.Branches.{in_branch}
-use Rattle.maker_branch.proofs.BranchLaws.{in_narrower, both_from, first_of, second_of}
+use Rattle.maker_branch.specs.LowerBounds.{has_with}
+use Rattle.maker_branch.proofs.BranchLaws.{first_of, second_of}
 use Rattle.maker_branch.proofs.LoadLaws.{bears_fewer, bound_under}
 use Rattle.maker_branch.proofs.lower_bounds.LowerBound.is_dear_with.Goals as goal
 
 pub loop-raise-init : goal.loop-raise-init
-loop-raise-init g c chosen wider b s =
+loop-raise-init g c =
+    let K = g.W.WeightKind.kind in
     let m = c.args.store.now in
-    let these = λ (set : ℕ). in_branch m chosen c.args.out set && member set c.args.number in
-    c.choose.ensures these
-    (bears_fewer g.W.WeightKind.kind g.met.W.WeightKind.laws m.weights _ _ (in_branch m chosen wider) these
-    (λ set h. in_narrower m chosen wider c.args.out set s (first_of (in_branch m chosen c.args.out set) (member set c.args.number) h)) b)
-    (λ set h. second_of (in_branch m chosen c.args.out set) (member set c.args.number) h)
+    let these = has_with K m c.args.branch.now c.args.number in
+    let inside = λ (set : ℕ). first_of (in_branch m c.args.branch.now set) (member set c.args.number) in
+    c.choose.ensures these (bears_fewer K g.met.W.WeightKind.laws m.weights _ _ (in_branch m c.args.branch.now) these inside c.requires)
+    (λ set h. second_of (in_branch m c.args.branch.now set) (member set c.args.number) h)
 
 pub loop-raise-preserved-then-not-has : goal.loop-raise-preserved-then-not-has
-loop-raise-preserved-then-not-has g c chosen wider b s =
+loop-raise-preserved-then-not-has g c =
     let m = c.args.store.now in
-    c.raise.ensures (λ set. in_branch m chosen c.args.out set && member set c.args.number) (c.loop-raise.invariant chosen wider b s)
-    (λ set h. c.in-Some-left_of.ensures chosen set (first_of (in_branch m chosen c.args.out set) (member set c.args.number) h))
+    c.raise.ensures (has_with g.W.WeightKind.kind m c.args.branch.now c.args.number) c.loop-raise.invariant
+    (λ set h. c.in-Some-left_of.ensures set (first_of (in_branch m c.args.branch.now set) (member set c.args.number) h))
 
 pub returns : goal.returns
-returns g c chosen wider b s set h t e =
-    let m = c.args.store.now in
-    let these = λ (x : ℕ). in_branch m chosen c.args.out x && member x c.args.number in
-    bound_under g.W.WeightKind.kind g.met.W.WeightKind.laws m.weights _ _ these set _ (c.loop-raise.invariant chosen wider b s) (both_from (in_branch m chosen c.args.out set) (member set c.args.number) h t)
+returns g c e set h =
+    let K = g.W.WeightKind.kind in
+    bound_under K g.met.W.WeightKind.laws c.args.store.now.weights _ _ (has_with K c.args.store.now c.args.branch.now c.args.number) set _ c.loop-raise.invariant h
     (sym c.reaches.ensures ∙ e)

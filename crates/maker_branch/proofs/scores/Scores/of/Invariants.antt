@@ -6,4 +6,4 @@ use Rattle.maker_branch.proofs.scores.Scores.of.Given as goal
 -- the numbers left are those of the open cores so far
 abbrev pub invariant-loop-core : goal.invariant-loop-core
 invariant-loop-core g l =
-    (k : ℕ) → member l.scores.left k ≡ (list_any (λ core. not (intersect core l.chosen) && member core k) (take l.core-index l.core-items) && not (member l.out k))
+    (k : ℕ) → member l.scores.left k ≡ (list_any (λ core. not (intersect core l.branch.chosen) && member core k) (take l.core-index l.core-items) && not (member l.branch.out k))
