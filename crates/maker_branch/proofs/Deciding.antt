@@ -1,37 +1,23 @@
 -- When a cover is the best of a branch.
-use Rattle.std.proofs.Common.{◌≡◌, ℕ, ◌<◌, true, false, not, ◌&&◌, List, [], ◌∷◌, length, refl, sym, ⊎_elim, subst, arith}
-use Rattle.std.proofs.lemmas.Bool.Decides.{nat_tests}
-use Rattle.std.proofs.lemmas.Bool.{both_ways, cases_Bool}
-use Rattle.std.specs.List.{list_all, list_any}
-use Rattle.terms.specs.Masks.{member, subset, intersect, below}
-use Rattle.terms.proofs.MaskLaws.{none_members, subset_members, intersect_members, below_members}
+use Rattle.std.proofs.Common.{◌≡◌, ℕ, true, false, sym, ⊎_elim, subst, arith}
+use Rattle.std.proofs.lemmas.Bool.{and_from, both_ways, cases_Bool}
+use Rattle.terms.specs.Masks.{member, subset, intersect}
+use Rattle.terms.proofs.MaskLaws.{none_members, subset_members}
 use Rattle.weights.specs.Costs.{cost}
 use Rattle.weights.specs.Kinds.{Kind, Laws}
 use Rattle.weights.proofs.SumLaws.{le_self, cost_more}
-use Rattle.makers.specs.Meanings.{MakerMeaning, Limited}
+use Rattle.makers.specs.Meanings.{MakerMeaning}
 use Rattle.makers.specs.Covers.{is_cover, Least}
 use Rattle.core_store.specs.BetterCovers.{NoDearer}
 use Rattle.maker_branch.specs.Branches.{in_branch, Forced, NoneOf, With}
 use Rattle.maker_branch.specs.Loads.{BearIn}
 use Rattle.maker_branch.specs.LowerBounds.{NoneBelow}
 use Rattle.maker_branch.specs.Narrowing.{Best, LeftOut}
-use Rattle.maker_branch.specs.Scores.{is_left}
 use Rattle.maker_branch.specs.declared.branches.Branch.{Branch}
 use Rattle.maker_branch.specs.declared.loads.Loads.{Loads}
-use Rattle.maker_branch.proofs.BranchLaws.{in_parts, in_from, first_of, second_of, both_from, not_so}
-use Rattle.maker_branch.proofs.GreedyLaws.{open_number}
+use Rattle.maker_branch.proofs.BranchLaws.{in_parts, in_from}
 use Rattle.maker_branch.proofs.Members.{none_within, none_apart, within_with, apart_with}
 use Rattle.maker_branch.proofs.LoadLaws.{bound_under}
-
-below_part : (n x y : ℕ) → below n y ≡ true → subset x y ≡ true → below n x ≡ true
-below_part n x y b s = grind (arith, nat_tests, b, s, below_members n x, below_members n y, subset_members x y)
-
--- a core that no open number is in has all that is not left out met by the chosen numbers
-chosen_meets : (chosen out set : ℕ) (cs : List ℕ) → ((k : ℕ) → (list_any (λ core. not (intersect core chosen) && member core k) cs && not (member out k)) ≡ false) → intersect out set ≡ false
-    → list_all (intersect set) cs ≡ true → list_all (intersect chosen) cs ≡ true
-chosen_meets chosen out set [] o a h = refl
-chosen_meets chosen out set (x ∷ cs) o a h =
-    grind (arith, nat_tests, o, a, h, chosen_meets chosen out set cs, intersect_members out set, intersect_members set x, intersect_members x chosen, intersect_members chosen x)
 
 module _ {W : Type 0} (K : Kind W) (laws : Laws K) (m : MakerMeaning W) where
   module _ (branch : Branch) (best : ℕ) where
@@ -73,7 +59,7 @@ module _ {W : Type 0} (K : Kind W) (laws : Laws K) (m : MakerMeaning W) where
       than_best = b.than_best;
       than_others = λ set h. let parts = in_parts m branch set h in ⊎_elim
           (λ meets. laws.trans (cost K m.weights r) (cost K m.weights best) (cost K m.weights set) b.than_best
-          (subst (λ v. K.le v (cost K m.weights set) ≡ true) e (o.dear set (both_from (in_branch m branch set) (intersect narrower.out set) h meets))))
+          (subst (λ v. K.le v (cost K m.weights set) ≡ true) e (o.dear set (and_from (in_branch m branch set) (intersect narrower.out set) h meets))))
           (λ apart. b.than_others set (in_from m narrower set parts.0 (subst (λ x. subset x set ≡ true) (sym o.chosen) parts.1) apart))
           (cases_Bool (intersect narrower.out set));
     }
@@ -90,23 +76,6 @@ module _ {W : Type 0} (K : Kind W) (laws : Laws K) (m : MakerMeaning W) where
           (in_from m without set parts.0 (subst (λ x. subset x set ≡ true) (sym c) parts.1) (apart_with branch.out without.out number f set parts.2 lacks)))
           (cases_Bool (member set number));
     }
-
-    -- ---- where no number is open
-    pub none_open : is_cover m branch.chosen ≡ false → NoneOf (is_left m branch) → NoneOf (in_branch m branch)
-    none_open n o set = not_so (in_branch m branch set) (λ h.
-        let parts = in_parts m branch set h in
-        both_ways (is_cover m branch.chosen) n
-        (both_from (below (length m.weights) branch.chosen) (list_all (intersect branch.chosen) m.cores)
-        (below_part (length m.weights) branch.chosen set (first_of (below (length m.weights) set) (list_all (intersect set) m.cores) parts.0) parts.1)
-        (chosen_meets branch.chosen branch.out set m.cores o parts.2 (second_of (below (length m.weights) set) (list_all (intersect set) m.cores) parts.0))))
-
-  -- ---- an open number is given, and neither chosen nor left out
-  pub open_parts : (branch : Branch) (number : ℕ) → Limited K m → is_left m branch number ≡ true → (number < 64) × (member branch.chosen number ≡ false) × (member branch.out number ≡ false)
-  open_parts branch number l o =
-      let in_core = first_of (list_any (λ core. not (intersect core branch.chosen) && member core number) m.cores) (not (member branch.out number)) o in
-      let not_out = second_of (list_any (λ core. not (intersect core branch.chosen) && member core number) m.cores) (not (member branch.out number)) o in
-      let given = open_number (length m.weights) branch.chosen number m.cores l.3 in_core in
-      (omega (arith, given.0, l.0), given.1, grind (arith, not_out))
 
   -- where nothing is chosen and nothing left out, every cover is in the branch
   pub best_of_all : (branch : Branch) (best r : ℕ) → branch.chosen ≡ 0 → branch.out ≡ 0 → Best K m branch best r → Least K m r

@@ -72,11 +72,11 @@ module _ {W : Type 0} (K : Kind W) (laws : Laws K) where
       inside true = refl
       inside false = laws.comm (cost K xs set) K.zero ∙ laws.unit (cost K xs set)
 
-  module _ (weights loads : List W) (k : ℕ) (amount : K.V) where
+  module _ (weights loads : List W) (k : ℕ) (amount : W) where
     pub borne : (load : W) → Raised K weights loads k amount load → Borne K weights k amount true loads (slice_set loads k load)
     borne load r = record {
       within = λ h. set_within K loads weights k load h r.within;
-      costs = λ set. cost_borne loads k load amount set r.fits r.sum;
+      costs = λ set. cost_borne loads k load (K.value amount) set r.fits r.sum;
     }
 
     pub not_borne : Borne K weights k amount false loads loads

@@ -18,37 +18,37 @@ listed (j ∷ ks) p k h t = grind (arith, nat_tests, listed ks p k, eqb-true j k
 any_member : (set other : ℕ) (ks : List ℕ) → ((k : ℕ) → member set k ≡ list_any (λ j. j == k) ks) → intersect set other ≡ true → list_any (member other) ks ≡ true
 any_member set other ks e h = let common = (intersect_members set other).0 h in listed ks (member other) common.0 (sym (e common.0) ∙ common.1) common.2
 
-module _ {W : Type 0} (K : Kind W) (weights : List W) (these : ℕ → Bool) (amount : K.V) where
+module _ {W : Type 0} (K : Kind W) (weights : List W) (these : ℕ → Bool) (amount : W) where
   -- the amount is owed by those covers that have one of the numbers to come
   pub record Owing (total : W) (rest : List ℕ) (loads : List W) : Type 0 where
     pub within : AllWithin K loads weights
-    pub owed : (set : ℕ) → these set ≡ true → K.le (cond (list_any (member set) rest) (K.value total) (K.plus (K.value total) amount)) (cost K loads set) ≡ true
+    pub owed : (set : ℕ) → these set ≡ true → K.le (cond (list_any (member set) rest) (K.value total) (K.plus (K.value total) (K.value amount))) (cost K loads set) ≡ true
 
   pub raising : (total : W) (set : ℕ) (ks : List ℕ) (loads : List W) → ((k : ℕ) → member set k ≡ list_any (λ j. j == k) ks) → AllMeet set these
       → Bears K weights these loads total → Owing total ks loads
   raising total set ks loads e meet b = record {
     within = b.within;
-    owed = λ other t. subst (λ owes. K.le (cond owes (K.value total) (K.plus (K.value total) amount)) (cost K loads other) ≡ true) (sym (any_member set other ks e (meet other t))) (b.enough other t);
+    owed = λ other t. subst (λ owes. K.le (cond owes (K.value total) (K.plus (K.value total) (K.value amount))) (cost K loads other) ≡ true) (sym (any_member set other ks e (meet other t))) (b.enough other t);
   }
 
-module _ {W : Type 0} (K : Kind W) (laws : Laws K) (weights : List W) (these : ℕ → Bool) (amount : K.V) where
+module _ {W : Type 0} (K : Kind W) (laws : Laws K) (weights : List W) (these : ℕ → Bool) (amount : W) where
   -- the total is no more than it is with the amount
-  less : (x : K.V) → K.le x (K.plus x amount) ≡ true
-  less x = subst (λ y. K.le y (K.plus x amount) ≡ true) (laws.comm x K.zero ∙ laws.unit x) (more_both laws x x K.zero amount (le_self laws x) (laws.least amount))
+  less : (x : K.V) → K.le x (K.plus x (K.value amount)) ≡ true
+  less x = subst (λ y. K.le y (K.plus x (K.value amount)) ≡ true) (laws.comm x K.zero ∙ laws.unit x) (more_both laws x x K.zero (K.value amount) (le_self laws x) (laws.least (K.value amount)))
 
-  either : (owes : Bool) (x y : K.V) → K.le (cond owes x (K.plus x amount)) y ≡ true → K.le x y ≡ true
+  either : (owes : Bool) (x y : K.V) → K.le (cond owes x (K.plus x (K.value amount))) y ≡ true → K.le x y ≡ true
   either true x y h = h
-  either false x y h = laws.trans x (K.plus x amount) y (less x) h
+  either false x y h = laws.trans x (K.plus x (K.value amount)) y (less x) h
 
-  step : (has owes : Bool) (x y z : K.V) → z ≡ cond has (K.plus y amount) y → K.le (cond (has || owes) x (K.plus x amount)) y ≡ true → K.le (cond owes x (K.plus x amount)) z ≡ true
-  step false owes x y z e h = subst (λ v. K.le (cond owes x (K.plus x amount)) v ≡ true) (sym e) h
+  step : (has owes : Bool) (x y z : K.V) → z ≡ cond has (K.plus y (K.value amount)) y → K.le (cond (has || owes) x (K.plus x (K.value amount))) y ≡ true → K.le (cond owes x (K.plus x (K.value amount))) z ≡ true
+  step false owes x y z e h = subst (λ v. K.le (cond owes x (K.plus x (K.value amount))) v ≡ true) (sym e) h
   step true owes x y z e h =
-      subst (λ v. K.le (cond owes x (K.plus x amount)) v ≡ true) (sym e)
-      (laws.trans (cond owes x (K.plus x amount)) (K.plus x amount) (K.plus y amount) (most owes) (laws.mono x y amount h))
+      subst (λ v. K.le (cond owes x (K.plus x (K.value amount))) v ≡ true) (sym e)
+      (laws.trans (cond owes x (K.plus x (K.value amount))) (K.plus x (K.value amount)) (K.plus y (K.value amount)) (most owes) (laws.mono x y (K.value amount) h))
     where
-      most : (b : Bool) → K.le (cond b x (K.plus x amount)) (K.plus x amount) ≡ true
+      most : (b : Bool) → K.le (cond b x (K.plus x (K.value amount))) (K.plus x (K.value amount)) ≡ true
       most true = less x
-      most false = le_self laws (K.plus x amount)
+      most false = le_self laws (K.plus x (K.value amount))
 
   module _ (total : W) (loads new : List W) where
     pub raised_one : (r : Bool) (number : ℕ) (items rest : List ℕ) → items ≡ number ∷ rest → r ≡ true → Borne K weights number amount r loads new
@@ -56,8 +56,8 @@ module _ {W : Type 0} (K : Kind W) (laws : Laws K) (weights : List W) (these : �
     raised_one r number items rest i s b o = record {
       within = b.within o.within;
       owed = λ set t. step (member set number) (list_any (member set) rest) (K.value total) (cost K loads set) (cost K new set)
-          (subst (λ r. cost K new set ≡ cond (r && member set number) (K.plus (cost K loads set) amount) (cost K loads set)) s (b.costs set))
-          (subst (λ ks. K.le (cond (list_any (member set) ks) (K.value total) (K.plus (K.value total) amount)) (cost K loads set) ≡ true) i (o.owed set t));
+          (subst (λ r. cost K new set ≡ cond (r && member set number) (K.plus (cost K loads set) (K.value amount)) (cost K loads set)) s (b.costs set))
+          (subst (λ ks. K.le (cond (list_any (member set) ks) (K.value total) (K.plus (K.value total) (K.value amount))) (cost K loads set) ≡ true) i (o.owed set t));
     }
 
     -- where it stops early, the total stays
@@ -66,15 +66,15 @@ module _ {W : Type 0} (K : Kind W) (laws : Laws K) (weights : List W) (these : �
     raised_none r number items s b o = record {
       within = b.within o.within;
       enough = λ set t. subst (λ v. K.le (K.value total) v ≡ true)
-          (sym (subst (λ r. cost K new set ≡ cond (r && member set number) (K.plus (cost K loads set) amount) (cost K loads set)) s (b.costs set)))
+          (sym (subst (λ r. cost K new set ≡ cond (r && member set number) (K.plus (cost K loads set) (K.value amount)) (cost K loads set)) s (b.costs set)))
           (either (list_any (member set) items) (K.value total) (cost K loads set) (o.owed set t));
     }
 
-    pub raised_all : (sum : W) (items : List ℕ) → items ≡ [] → K.value sum ≡ K.plus (K.value total) amount → Owing K weights these amount total items loads → Bears K weights these loads sum
+    pub raised_all : (sum : W) (items : List ℕ) → items ≡ [] → K.value sum ≡ K.plus (K.value total) (K.value amount) → Owing K weights these amount total items loads → Bears K weights these loads sum
     raised_all sum items i e o = record {
       within = o.within;
       enough = λ set t. subst (λ v. K.le v (cost K loads set) ≡ true) (sym e)
-          (subst (λ ks. K.le (cond (list_any (member set) ks) (K.value total) (K.plus (K.value total) amount)) (cost K loads set) ≡ true) i (o.owed set t));
+          (subst (λ ks. K.le (cond (list_any (member set) ks) (K.value total) (K.plus (K.value total) (K.value amount))) (cost K loads set) ≡ true) i (o.owed set t));
     }
 
     pub not_raised : (items : List ℕ) → Owing K weights these amount total items loads → Bears K weights these loads total

@@ -5,10 +5,13 @@ use Rattle.terms.specs.Masks.{member, intersect}
 use Rattle.makers.specs.Meanings.{MakerMeaning}
 use Rattle.maker_branch.specs.declared.branches.Branch.{Branch}
 
--- those of the cores that no chosen number meets, without those that were left out
+-- the core has number k, and is open: no chosen number is in it
+abbrev pub open_with : ℕ → ℕ → ℕ → Bool
+open_with chosen k core = not (intersect core chosen) && member core k
+
+-- an open core has number k, and it was not left out
 abbrev pub is_left : {W : Type 0} → MakerMeaning W → Branch → ℕ → Bool
-is_left m branch k =
-    list_any (λ core. not (intersect core branch.chosen) && member core k) m.cores && not (member branch.out k)
+is_left m branch k = list_any (open_with branch.chosen k) m.cores && not (member branch.out k)
 
 -- no member of the set has a higher score
 abbrev pub Highest : List ℕ → ℕ → ℕ → Type 0

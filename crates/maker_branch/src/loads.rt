@@ -130,7 +130,7 @@ impl<W: WeightKind> Loads<W> {
     #[tactic(auto, using(crate::proofs::LoadLaws::not_borne))]
     fn bear(&mut self, store: &Store<W>, number: usize, amount: W) -> bool
         ensures total { self.new.total ≡ self.old.total }
-        ensures loads { Borne W.kind store.now.weights number (W.kind.value amount) result self.old.loads self.new.loads }
+        ensures loads { Borne W.kind store.now.weights number amount result self.old.loads self.new.loads }
     {
         let Some(load) = self.raised(store, number, amount) else {
             return false;
@@ -153,7 +153,7 @@ impl<W: WeightKind> Loads<W> {
     /// The load of the number with the amount more, if it can bear that.
     #[tactic(auto, using(crate::proofs::LoadLaws::value_at_index))]
     fn raised(&self, store: &Store<W>, number: usize, amount: W) -> Option<W>
-        ensures { IfSome result (Raised W.kind store.now.weights self.now.loads number (W.kind.value amount)) }
+        ensures { IfSome result (Raised W.kind store.now.weights self.now.loads number amount) }
     {
         let load = self.loads.get(number)?.sum(amount)?;
         at_most(load, *store.weights().get(number)?)

@@ -1,7 +1,7 @@
 //! Lower bounds of what the covers of a branch cost.
 ghost use Rattle.std.specs.Prelude.{◌≡◌, IfSome, IsTrue};
 ghost use Rattle.maker_branch.specs.Branches.{in_branch};
-ghost use Rattle.maker_branch.specs.Loads.{AllMeet, BearIn};
+ghost use Rattle.maker_branch.specs.Loads.{AllMeet, BearIn, KeepBearing};
 ghost use Rattle.maker_branch.specs.LowerBounds.{DearWith};
 
 use crate::branches::Branch;
@@ -83,7 +83,7 @@ impl<W: WeightKind> LowerBound<W> {
     /// Puts on what is left of the core the heaviest weight that it can bear.
     fn put_on(&mut self, store: &Store<W>, branch: &Branch, index: usize)
         ensures base { self.new.base ≡ self.old.base }
-        ensures loads { BearIn W.kind store.now branch.now self.old.loads → BearIn W.kind store.now branch.now self.new.loads }
+        ensures loads { KeepBearing W.kind store.now branch.now self.old.loads self.new.loads }
     {
         let Some(rest) = left_of(store, branch, index) else {
             return;

@@ -1,5 +1,9 @@
 use Rattle.std.proofs.Common.{refl, rules, sym, ◌∙◌, arith}
-use Rattle.maker_branch.proofs.Deciding.{best_alone, best_both, best_bound, best_chosen, best_forced, best_wider, none_open, open_parts}
+use Rattle.std.proofs.lemmas.Bool.{both_ways, false_from_ne_true}
+use Rattle.makers.specs.Covers.{is_cover}
+use Rattle.maker_branch.specs.Branches.{in_branch}
+use Rattle.maker_branch.proofs.Deciding.{best_alone, best_both, best_bound, best_chosen, best_forced, best_wider}
+use Rattle.maker_branch.proofs.BranchLaws.{none_open, open_parts}
 use Rattle.maker_branch.proofs.Members.{below_mask, falls_chosen, falls_out, fewer_chosen, greater, grows_with}
 use Rattle.maker_branch.proofs.branch_and_bound.BranchAndBoundMaker.+narrowing.Goals as goal
 
@@ -56,15 +60,16 @@ cut-split-requires g t c κs within = (
 pub cut-returns-in-None : goal.cut-returns-in-None
 cut-returns-in-None g t c =
     let m = c.args.self.now.store in
-    best_alone g.W.WeightKind.kind g.met.W.WeightKind.laws m c.args.branch.now c.args.best c.requires.cover
-    (none_open g.W.WeightKind.kind g.met.W.WeightKind.laws m c.args.branch.now c.args.best (sym c.is_cover.ensures ∙ c.if-is_cover.false)
-    (λ k. sym (c.of-scores.ensures k) ∙ c.in-None.ensures.none refl k))
+    let branch = c.args.branch.now in
+    best_alone g.W.WeightKind.kind g.met.W.WeightKind.laws m branch c.args.best c.requires.cover (λ set. false_from_ne_true (in_branch m branch set)
+    (λ h. both_ways (is_cover m branch.chosen) (sym c.is_cover.ensures ∙ c.if-is_cover.false)
+    (none_open m branch set (λ k. sym (c.of-scores.ensures k) ∙ c.in-None.ensures.none refl k) h)))
 
 pub split-narrow-with-requires : goal.split-narrow-with-requires
 split-narrow-with-requires g t c κs within =
     let branch = c.args.branch.now in
-    let parts = open_parts g.W.WeightKind.kind g.met.W.WeightKind.laws c.args.self.now.store branch c.args.number c.args.self.now.limited c.requires.number in
-    let grows = grows_with branch.chosen c.with.result.chosen c.args.number c.with.ensures.chosen parts.1 parts.0 branch.chosen_fit in (
+    let parts = open_parts c.args.self.now.store branch c.args.number c.args.self.now.limited.3 c.requires.number in
+    let grows = grows_with branch.chosen c.with.result.chosen c.args.number c.with.ensures.chosen parts.1 (omega (arith, parts.0, c.args.self.now.limited.0)) branch.chosen_fit in (
       omega (arith, c.decreases, falls_chosen branch c.with.result c.with.ensures.out grows.0 grows.1),
       (within, (search rules, c.requires.cover)),
     )
@@ -72,8 +77,8 @@ split-narrow-with-requires g t c κs within =
 pub split-narrow-requires : goal.split-narrow-requires
 split-narrow-requires g t c κs within =
     let branch = c.args.branch.now in
-    let parts = open_parts g.W.WeightKind.kind g.met.W.WeightKind.laws c.args.self.now.store branch c.args.number c.args.self.now.limited c.requires.number in
-    let grows = grows_with branch.out c.without.result.out c.args.number c.without.ensures.out parts.2 parts.0 branch.out_fit in (
+    let parts = open_parts c.args.self.now.store branch c.args.number c.args.self.now.limited.3 c.requires.number in
+    let grows = grows_with branch.out c.without.result.out c.args.number c.without.ensures.out parts.2 (omega (arith, parts.0, c.args.self.now.limited.0)) branch.out_fit in (
       omega (arith, c.decreases, falls_out branch c.without.result c.without.ensures.chosen grows.0 grows.1),
       (within, (search rules, c.narrow-with.ensures.cover)),
     )

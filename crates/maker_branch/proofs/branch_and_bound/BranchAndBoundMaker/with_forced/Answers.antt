@@ -1,7 +1,7 @@
 use Rattle.std.proofs.Common.{refl, ◌∙◌}
-use Rattle.std.proofs.lemmas.Bool.{both_ways}
+use Rattle.std.proofs.lemmas.Bool.{both_ways, false_from_ne_true}
 use Rattle.maker_branch.specs.Branches.{in_branch, meets_in}
-use Rattle.maker_branch.proofs.BranchLaws.{in_parts, met_in_branch, not_so}
+use Rattle.maker_branch.proofs.BranchLaws.{in_parts, met_in_branch}
 use Rattle.terms.proofs.MaskLaws.{subset_self, subset_trans}
 use Rattle.maker_branch.proofs.branch_and_bound.BranchAndBoundMaker.with_forced.Goals as goal
 
@@ -24,7 +24,7 @@ pub returns-in_err-forced-clause-none : goal.returns-in_err-forced-clause-none
 returns-in_err-forced-clause-none g c h set =
     let m = c.args.self.now.store in
     let so_far = c.loop-core.invariant in
-    not_so (in_branch m c.args.branch.now set)
+    false_from_ne_true (in_branch m c.args.branch.now set)
     (λ i. both_ways (meets_in c.loop-core.forced c.core-item.result set) (c.in_err-forced.ensures.none refl set)
     (met_in_branch m c.cores-core-items.result.now c.args.branch.now c.loop-core.forced c.loop-core.core-index c.core-item.result set c.cores-core-items.ensures c.loop-core-test.true
     c.core-item.is i so_far.out (so_far.forced set i)))

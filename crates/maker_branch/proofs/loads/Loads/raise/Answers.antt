@@ -6,7 +6,7 @@ pub loop-number-init : goal.loop-number-init
 loop-number-init g c = (
   refl,
   λ these b meet. rw c.into_iter-number-iterator.ensures.into_iter_gives
-      (raising g.W.WeightKind.kind c.args.store.now.weights these (g.W.WeightKind.kind.value c.args.amount) c.args.self.now.total c.args.set c.members-number-items.result
+      (raising g.W.WeightKind.kind c.args.store.now.weights these c.args.amount c.args.self.now.total c.args.set c.members-number-items.result
       c.args.self.now.loads c.members-number-items.ensures.all meet b),
 )
 

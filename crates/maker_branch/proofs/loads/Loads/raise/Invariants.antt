@@ -9,4 +9,4 @@ invariant-loop-number g l =
     let K = g.W.WeightKind.kind in
     (l.self.total ≡ l.fn.self.total)
     × ((these : ℕ → Bool) → BearFor K l.store.weights these l.fn.self → AllMeet l.fn.set these
-    → Owing K l.store.weights these (K.value l.amount) l.fn.self.total l.number-iterator l.self.loads)
+    → Owing K l.store.weights these l.amount l.fn.self.total l.number-iterator l.self.loads)
