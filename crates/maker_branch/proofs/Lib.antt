@@ -1,7 +1,7 @@
 pub mod BranchLaws
-pub mod Deciding
+pub mod BestLaws
 pub mod LoadLaws
-pub mod Members
+pub mod SetLaws
 pub mod Raising
 pub mod Multiplying
 pub mod GreedyLaws

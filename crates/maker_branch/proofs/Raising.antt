@@ -1,5 +1,5 @@
 -- Putting an amount on all numbers of a set, one after another.
-use Rattle.std.proofs.Common.{◌≡◌, ℕ, Bool, true, false, cond, ◌&&◌, ◌||◌, List, [], ◌∷◌, sym, ◌∙◌, subst, arith, eqb-true}
+use Rattle.std.proofs.Common.{◌≡◌, ℕ, Bool, true, false, cond, ◌&&◌, ◌||◌, List, [], ◌∷◌, sym, ap, ◌∙◌, subst, arith, eqb-true}
 use Rattle.std.specs.Prelude.{◌==◌}
 use Rattle.std.specs.List.{list_any}
 use Rattle.terms.specs.Masks.{member, intersect}
@@ -70,10 +70,10 @@ module _ {W : Type 0} (K : Kind W) (laws : Laws K) (weights : List W) (these : �
           (either (list_any (member set) items) (K.value total) (cost K loads set) (o.owed set t));
     }
 
-    pub raised_all : (sum : W) (items : List ℕ) → items ≡ [] → K.value sum ≡ K.plus (K.value total) (K.value amount) → Owing K weights these amount total items loads → Bears K weights these loads sum
-    raised_all sum items i e o = record {
+    pub raised_all : (sum now : W) (items : List ℕ) → items ≡ [] → now ≡ total → K.value sum ≡ K.plus (K.value now) (K.value amount) → Owing K weights these amount total items loads → Bears K weights these loads sum
+    raised_all sum now items i same e o = record {
       within = o.within;
-      enough = λ set t. subst (λ v. K.le v (cost K loads set) ≡ true) (sym e)
+      enough = λ set t. subst (λ v. K.le v (cost K loads set) ≡ true) (sym (e ∙ ap (λ t. K.plus (K.value t) (K.value amount)) same))
           (subst (λ ks. K.le (cond (list_any (member set) ks) (K.value total) (K.plus (K.value total) (K.value amount))) (cost K loads set) ≡ true) i (o.owed set t));
     }
 

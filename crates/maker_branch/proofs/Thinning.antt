@@ -2,7 +2,7 @@
 use Rattle.std.proofs.Common.{◌≡◌, ℕ, ◌<◌, true, false, not, ◌&&◌, eqb, ap, arith}
 use Rattle.std.proofs.lemmas.Bool.Decides.{nat_tests}
 use Rattle.terms.specs.Masks.{member, subset}
-use Rattle.maker_branch.proofs.Members.{part_at_most}
+use Rattle.maker_branch.proofs.SetLaws.{part_at_most}
 use Rattle.terms.proofs.MaskLaws.{subset_members, subset_trans}
 use Rattle.makers.specs.Meanings.{MakerMeaning}
 use Rattle.makers.specs.Covers.{Needed}

@@ -14,13 +14,21 @@ has_settled branch set = subset branch.chosen set && not (intersect branch.out s
 abbrev pub in_branch : {W : Type 0} → MakerMeaning W → Branch → ℕ → Bool
 in_branch m branch set = is_cover m set && has_settled branch set
 
--- such sets that have a member in common with the core, be they covers or not
+-- those covers that have number k
+abbrev pub in_branch_with : {W : Type 0} → MakerMeaning W → Branch → ℕ → ℕ → Bool
+in_branch_with m branch k set = in_branch m branch set && member set k
+
+-- those covers that have a member of x
+abbrev pub in_branch_meeting : {W : Type 0} → MakerMeaning W → Branch → ℕ → ℕ → Bool
+in_branch_meeting m branch x set = in_branch m branch set && intersect x set
+
+-- the sets that meet the core and in which all is settled so, be they covers or not
 abbrev pub meets_in : Branch → ℕ → ℕ → Bool
 meets_in branch core set = intersect set core && has_settled branch set
 
--- there is none
+-- there is no such set or number
 abbrev pub NoneOf : (ℕ → Bool) → Type 0
-NoneOf these = (set : ℕ) → these set ≡ false
+NoneOf these = (x : ℕ) → these x ≡ false
 
 -- the set with number k as well, if a set can have it
 abbrev pub With : ℕ → ℕ → ℕ → Type 0

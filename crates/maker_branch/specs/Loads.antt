@@ -8,7 +8,7 @@ use Rattle.maker_branch.specs.Branches.{in_branch}
 use Rattle.maker_branch.specs.declared.branches.Branch.{Branch}
 use Rattle.maker_branch.specs.declared.loads.Loads.{Loads}
 
--- ---- sets with something in common
+-- ---- sets with something in common: a number, or that they meet the same set
 abbrev pub AllHave : ℕ → (ℕ → Bool) → Type 0
 AllHave k these = (set : ℕ) → these set ≡ true → member set k ≡ true
 
@@ -43,18 +43,18 @@ module _ {W : Type 0} (K : Kind W) where
     pub within : AllWithin loads weights
     pub enough : (set : ℕ) → these set ≡ true → K.le (K.value total) (cost K loads set) ≡ true
 
-  -- the same of the loads and their total
   abbrev pub BearFor : List W → (ℕ → Bool) → Loads W → Type 0
   BearFor weights these x = Bears weights these x.loads x.total
 
-  -- the same, where the sets are the covers of the branch
+  -- so for the covers of the branch
   abbrev pub BearIn : MakerMeaning W → Branch → Loads W → Type 0
   BearIn m branch x = BearFor m.weights (in_branch m branch) x
 
+  -- if so before, then after
   abbrev pub KeepBearing : MakerMeaning W → Branch → Loads W → Loads W → Type 0
   KeepBearing m branch before after = BearIn m branch before → BearIn m branch after
 
-  -- the same of all such sets
+  -- the same of all such sets, whichever branch they are in
   abbrev pub StillBear : List W → ((ℕ → Bool) → Type 0) → Loads W → Loads W → Type 0
   StillBear weights Such before after =
       (these : ℕ → Bool) → BearFor weights these before → Such these → BearFor weights these after

@@ -1,10 +1,9 @@
 -- Lower bounds of what sets cost.
-use Rattle.std.specs.Prelude.{◌≡◌, ℕ, Bool, true, ◌&&◌}
-use Rattle.terms.specs.Masks.{member}
+use Rattle.std.specs.Prelude.{◌≡◌, ℕ, Bool, true}
 use Rattle.weights.specs.Costs.{cost}
 use Rattle.weights.specs.Kinds.{Kind}
 use Rattle.makers.specs.Meanings.{MakerMeaning}
-use Rattle.maker_branch.specs.Branches.{in_branch}
+use Rattle.maker_branch.specs.Branches.{in_branch_with}
 use Rattle.maker_branch.specs.declared.branches.Branch.{Branch}
 
 module _ {W : Type 0} (K : Kind W) (m : MakerMeaning W) where
@@ -12,10 +11,6 @@ module _ {W : Type 0} (K : Kind W) (m : MakerMeaning W) where
   abbrev pub NoneBelow : (ℕ → Bool) → K.V → Type 0
   NoneBelow these v = (set : ℕ) → these set ≡ true → K.le v (cost K m.weights set) ≡ true
 
-  -- the covers of the branch that have number k
-  abbrev pub has_with : Branch → ℕ → ℕ → Bool
-  has_with branch k set = in_branch m branch set && member set k
-
   -- no cover of the branch that has number k costs less than the weight
   abbrev pub DearWith : Branch → ℕ → W → Type 0
-  DearWith branch k w = NoneBelow (has_with branch k) (K.value w)
+  DearWith branch k w = NoneBelow (in_branch_with m branch k) (K.value w)

@@ -95,7 +95,7 @@ impl<W: WeightKind> CoverMaker for BranchAndBoundMaker<W> {
         self.store.cost(set)
     }
 
-    /// As every cover maker, and no member can be spared.
+    /// As every cover maker, and no member can be spared. It is the greedy heuristic for set covering (Chvatal 1979), thinned.
     fn cover(&self) -> SoftSet
         ensures covers { is_cover (maker_meaning self.now) result ≡ true }
         ensures minimal { Minimal (maker_meaning self.now) result }
@@ -103,6 +103,9 @@ impl<W: WeightKind> CoverMaker for BranchAndBoundMaker<W> {
         quick_cover(&self.store)
     }
 
+    /// Branch and bound for weighted hitting sets, which is set covering, in the manner of Balas and Carrera (1996): a feasible
+    /// solution of the dual of the covering LP, found core by core, is the lower bound of a branch, and fixes numbers by their
+    /// reduced costs.
     fn least_cover(&self) -> SoftSet {
         self.narrow(&Branch::all(), self.cover())
     }

@@ -18,7 +18,7 @@ impl Branch {
     ghost use Rattle.maker_branch.specs.Branches.{meets_in, Forced, NoneOf, With};
 
     /// All covers: no number is settled.
-    #[tactic(auto, using(crate::proofs::Members::below_none))]
+    #[tactic(auto, using(crate::proofs::SetLaws::below_none))]
     pub(crate) fn all() -> Branch
         ensures chosen { result.chosen ≡ 0 }
         ensures out { result.out ≡ 0 }

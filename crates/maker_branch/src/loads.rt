@@ -10,7 +10,8 @@ use terms::limits::SOFT_PLACES;
 use weights::WeightKind;
 
 /// A load on each soft number, no more than its weight. A core puts an amount on all numbers that are left of it, of which every
-/// cover of the branch has one: so such a cover costs at least what the cores put on, each of them counted once.
+/// cover of the branch has one: so such a cover costs at least what the cores put on, each of them counted once. The amounts
+/// are a feasible solution of the dual of the covering LP, and the total is what it is worth.
 #[derive(Clone, Copy, Debug)]
 pub(crate) struct Loads<W: WeightKind> {
     loads: [W; SOFT_PLACES],

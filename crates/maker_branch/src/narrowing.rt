@@ -87,7 +87,8 @@ impl<W: WeightKind> BranchAndBoundMaker<W> {
         Some(forced)
     }
 
-    /// The branch without the dear numbers: those of these with which the lower bound shows that no cover costs less than the best.
+    /// The branch without the dear numbers, those of `left` of which the lower bound shows that covers with them cost as much as
+    /// the best.
     fn without_dear(
         &self,
         branch: &Branch,

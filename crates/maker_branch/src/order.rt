@@ -8,14 +8,14 @@ use terms::SoftSet;
 use terms::limits::CORE_PLACES;
 use weights::WeightKind;
 
-/// How many keys there are for cores with only heavy numbers left, and for the others: tuned on bench, no promise.
-const LEVEL_KEYS: usize = 128;
+/// Half of the keys are for cores of which only heavy numbers are left, and half for the others: tuned on bench, no promise.
+const HALF_KEYS: usize = 128;
 
 /// How far the sums of scores of two keys are apart: tuned on bench, no promise.
 const KEY_STEP: u32 = 16;
 
 /// How many keys there are to order by.
-const KEYS: usize = 2 * LEVEL_KEYS;
+const KEYS: usize = 2 * HALF_KEYS;
 
 /// No core has this index.
 const NO_INDEX: u16 = CORE_PLACES as u16;
@@ -77,7 +77,7 @@ impl Order {
     }
 }
 
-/// The key of what is left of a core: the sum of its scores in steps, up to the last key of its kind.
+/// The key of what is left of a core: the sum of its scores in steps, up to the last key of its half.
 fn key(rest: SoftSet, scores: &Scores, heavy: SoftSet) -> usize
     ensures { result < KEYS }
 {
@@ -85,10 +85,10 @@ fn key(rest: SoftSet, scores: &Scores, heavy: SoftSet) -> usize
     for number in rest.members() {
         sum = sum.saturating_add(scores.of_number(number));
     }
-    let low = ((sum / KEY_STEP) as usize).min(LEVEL_KEYS - 1);
+    let low = ((sum / KEY_STEP) as usize).min(HALF_KEYS - 1);
     if rest.is_subset(heavy) {
         low
     } else {
-        LEVEL_KEYS + low
+        HALF_KEYS + low
     }
 }

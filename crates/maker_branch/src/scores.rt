@@ -1,5 +1,5 @@
 //! How much each soft number would do.
-ghost use Rattle.std.specs.Prelude.{◌≡◌, ℕ, ◌≤◌, true, false, ◌||◌, IfSome, IsNone, slice_index_or};
+ghost use Rattle.std.specs.Prelude.{◌≡◌, ℕ, ◌≤◌, true, ◌||◌, IfSome, IsNone, slice_index_or};
 ghost use Rattle.terms.specs.Masks.{member};
 ghost use Rattle.maker_branch.specs.Branches.{NoneOf};
 ghost use Rattle.maker_branch.specs.Scores.{is_left, Highest};
@@ -20,7 +20,7 @@ pub(crate) struct Scores {
 
 impl Scores {
     fn new() -> Scores
-        ensures { (k : ℕ) → member result.left k ≡ false }
+        ensures { NoneOf (member result.left) }
     {
         Scores {
             scores: [0; SOFT_PLACES],

@@ -1,7 +1,7 @@
 use Rattle.std.proofs.Common.{length, refl, arith, ◌∙◌}
 use Rattle.maker_branch.proofs.BranchLaws.{open_parts}
 use Rattle.maker_branch.proofs.GreedyLaws.{given, met}
-use Rattle.maker_branch.proofs.Members.{below_none, grows_with}
+use Rattle.maker_branch.proofs.SetLaws.{below_none, grows_with}
 use Rattle.maker_branch.proofs.greedy.greedy.Goals as goal
 
 pub loop-number-init : goal.loop-number-init

@@ -1,5 +1,6 @@
 use Rattle.std.proofs.Common.{◌≡◌, true, ◌-◌, ◌^◌, length}
 use Rattle.terms.specs.Masks.{below}
+use Rattle.terms.specs.declared.limits.TheConstants.{SOFT_PLACES}
 use Rattle.maker_branch.proofs.greedy.greedy.Given as goal
 
 -- given numbers are chosen, and none is left out
@@ -8,4 +9,4 @@ invariant-loop-number g l = (below (length l.store.weights) l.branch.chosen ≡ 
 
 -- a number more is chosen each time
 abbrev pub decreases-loop-number : goal.decreases-loop-number
-decreases-loop-number g l = 2 ^ 64 - l.branch.chosen
+decreases-loop-number g l = 2 ^ SOFT_PLACES - l.branch.chosen

@@ -2,9 +2,9 @@ use Rattle.std.proofs.Common.{refl, rules, sym, ◌∙◌, arith}
 use Rattle.std.proofs.lemmas.Bool.{both_ways, false_from_ne_true}
 use Rattle.makers.specs.Covers.{is_cover}
 use Rattle.maker_branch.specs.Branches.{in_branch}
-use Rattle.maker_branch.proofs.Deciding.{best_alone, best_both, best_bound, best_chosen, best_forced, best_wider}
+use Rattle.maker_branch.proofs.BestLaws.{best_alone, best_both, best_bound, best_chosen, best_forced, best_wider}
 use Rattle.maker_branch.proofs.BranchLaws.{none_open, open_parts}
-use Rattle.maker_branch.proofs.Members.{below_mask, falls_chosen, falls_out, fewer_chosen, greater, grows_with}
+use Rattle.maker_branch.proofs.SetLaws.{below_mask, falls_chosen, falls_out, fewer_chosen, greater, grows_with}
 use Rattle.maker_branch.proofs.branch_and_bound.BranchAndBoundMaker.+narrowing.Goals as goal
 
 pub narrow-cut-requires : goal.narrow-cut-requires

@@ -1,5 +1,5 @@
 use Rattle.std.proofs.Common.{◌*◌, ◌+◌}
-use Rattle.maker_branch.proofs.Members.{undecided}
+use Rattle.maker_branch.proofs.SetLaws.{undecided}
 use Rattle.maker_branch.proofs.branch_and_bound.BranchAndBoundMaker.+narrowing.Given as goal
 
 -- more numbers are chosen or left out

@@ -5,7 +5,7 @@ use Rattle.maker_branch.specs.Branches.{in_branch}
 use Rattle.maker_branch.proofs.BranchLaws.{in_narrower, in_parts, one_more_out}
 use Rattle.terms.proofs.MaskLaws.{subset_self, subset_trans}
 use Rattle.maker_branch.proofs.LoadLaws.{bears_fewer}
-use Rattle.maker_branch.proofs.Members.{subset_with}
+use Rattle.maker_branch.proofs.SetLaws.{subset_with}
 use Rattle.maker_branch.proofs.branch_and_bound.BranchAndBoundMaker.without_dear.Goals as goal
 
 pub loop-number-init : goal.loop-number-init

@@ -1,4 +1,4 @@
-use Rattle.maker_branch.proofs.Deciding.{best_of_all}
+use Rattle.maker_branch.proofs.BestLaws.{best_of_all}
 use Rattle.maker_branch.proofs.branch_and_bound.BranchAndBoundMakerCoverMaker.least_cover.Goals as goal
 
 pub returns : goal.returns

@@ -1,4 +1,4 @@
-use Rattle.maker_branch.proofs.Members.{below_with}
+use Rattle.maker_branch.proofs.SetLaws.{below_with}
 use Rattle.maker_branch.proofs.branches.Branch.with.Goals as goal
 
 pub invariant_of-result-clause-chosen_fit : goal.invariant_of-result-clause-chosen_fit

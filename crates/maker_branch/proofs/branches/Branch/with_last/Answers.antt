@@ -1,6 +1,6 @@
 use Rattle.std.proofs.Common.{refl}
 use Rattle.maker_branch.proofs.BranchLaws.{forced_none, last_forced, none_left}
-use Rattle.maker_branch.proofs.Members.{subset_with}
+use Rattle.maker_branch.proofs.SetLaws.{subset_with}
 use Rattle.maker_branch.proofs.branches.Branch.with_last.Goals as goal
 
 pub returns-then-intersects-clause-forced : goal.returns-then-intersects-clause-forced

@@ -1,4 +1,4 @@
-use Rattle.maker_branch.proofs.Members.{below_with}
+use Rattle.maker_branch.proofs.SetLaws.{below_with}
 use Rattle.maker_branch.proofs.branches.Branch.without.Goals as goal
 
 pub invariant_of-result-clause-out_fit : goal.invariant_of-result-clause-out_fit

@@ -1,7 +1,7 @@
 use Rattle.terms.specs.Masks.{member}
 use Rattle.maker_branch.specs.Branches.{in_branch}
 use Rattle.maker_branch.proofs.BranchLaws.{chosen_has}
-use Rattle.maker_branch.proofs.Members.{all_listed, next_passes}
+use Rattle.maker_branch.proofs.SetLaws.{all_listed, next_passes}
 use Rattle.maker_branch.proofs.loads.Loads.of_chosen.Goals as goal
 
 pub loop-number-init : goal.loop-number-init

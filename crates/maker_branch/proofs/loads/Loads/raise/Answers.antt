@@ -1,4 +1,4 @@
-use Rattle.std.proofs.Common.{refl, ap, ◌∙◌}
+use Rattle.std.proofs.Common.{refl, ◌∙◌}
 use Rattle.maker_branch.proofs.Raising.{raising, raised_one, raised_none, raised_all, not_raised}
 use Rattle.maker_branch.proofs.loads.Loads.raise.Goals as goal
 
@@ -26,8 +26,8 @@ loop-number-preserved g c = (
 pub returns-in-Some-sum : goal.returns-in-Some-sum
 returns-in-Some-sum g c these b meet =
     let K = g.W.WeightKind.kind in
-    raised_all K g.met.W.WeightKind.laws c.args.store.now.weights these _ c.args.self.now.total c.loop-number.self.loads c.loop-number.self.loads c.in-Some-sum.total _ c.in-None.ensures.steps.0
-    (c.in-Some-sum.ensures.1 ∙ ap (λ t. K.plus (K.value t) (K.value c.args.amount)) c.loop-number.invariant.0) (c.loop-number.invariant.1 these b meet)
+    raised_all K g.met.W.WeightKind.laws c.args.store.now.weights these _ c.args.self.now.total c.loop-number.self.loads c.loop-number.self.loads c.in-Some-sum.total _ _ c.in-None.ensures.steps.0
+    c.loop-number.invariant.0 c.in-Some-sum.ensures.1 (c.loop-number.invariant.1 these b meet)
 
 pub returns-in_default : goal.returns-in_default
 returns-in_default g c these b meet =

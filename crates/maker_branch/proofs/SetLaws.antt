@@ -5,6 +5,7 @@ use Rattle.std.specs.List.{list_all, list_any}
 use Rattle.std.proofs.lemmas.Bool.{both_ways, cases_lt, eqb-true, ltb-true}
 use Rattle.std.proofs.lemmas.Nat.{and_le_r}
 use Rattle.std.proofs.lemmas.Bool.Decides.{nat_tests}
+use Rattle.terms.specs.declared.limits.TheConstants.{SOFT_PLACES}
 use Rattle.terms.specs.Masks.{member, subset, intersect, below}
 use Rattle.terms.proofs.MaskLaws.{none_members, subset_members, subset_self, intersect_members, below_members}
 use Rattle.maker_branch.specs.Branches.{With}
@@ -34,9 +35,9 @@ pub none_apart : (x y : ℕ) → ((k : ℕ) → member x k ≡ false) → inters
 none_apart x y none = grind (arith, nat_tests, none, intersect_members x y)
 
 -- ---- masks as numbers
-pub below_mask : (x : ℕ) → below 64 x ≡ true → x < 2 ^ 64
+pub below_mask : (x : ℕ) → below SOFT_PLACES x ≡ true → x < 2 ^ SOFT_PLACES
 unfolding below
-below_mask x h = omega (arith, ltb-true x (2 ^ 64) h)
+below_mask x h = omega (arith, ltb-true x (2 ^ SOFT_PLACES) h)
 
 not_within : (x y k : ℕ) → member x k ≡ true → member y k ≡ false → subset x y ≡ false
 not_within x y k a b = grind (arith, nat_tests, a, b, subset_members x y)
@@ -58,8 +59,8 @@ module _ (x more number : ℕ) (e : With x number more) where
   pub subset_with : subset x more ≡ true
   subset_with = grind (arith, nat_tests, e, subset_members x more)
 
-  pub below_with : below 64 x ≡ true → below 64 more ≡ true
-  below_with h = grind (arith, nat_tests, h, e, below_members 64 x, below_members 64 more)
+  pub below_with : below SOFT_PLACES x ≡ true → below SOFT_PLACES more ≡ true
+  below_with h = grind (arith, nat_tests, h, e, below_members SOFT_PLACES x, below_members SOFT_PLACES more)
 
   pub within_with : (set : ℕ) → subset x set ≡ true → member set number ≡ true → subset more set ≡ true
   within_with set s h = grind (arith, nat_tests, e, s, h, subset_members x set, subset_members more set)
@@ -67,20 +68,20 @@ module _ (x more number : ℕ) (e : With x number more) where
   pub apart_with : (set : ℕ) → intersect x set ≡ false → member set number ≡ false → intersect more set ≡ false
   apart_with set a h = grind (arith, nat_tests, e, a, h, intersect_members x set, intersect_members more set)
 
-  pub grows_with : member x number ≡ false → number < 64 → below 64 x ≡ true → (x < more) × (more < 2 ^ 64)
+  pub grows_with : member x number ≡ false → number < SOFT_PLACES → below SOFT_PLACES x ≡ true → (x < more) × (more < 2 ^ SOFT_PLACES)
   grows_with a l b =
       (greater x more subset_with (not_within more x number (grind (arith, nat_tests, e, l)) a), below_mask more (below_with b))
 
 -- ---- how much is undecided: it falls as a set of numbers that are settled grows
 abbrev pub undecided : Branch → ℕ
-undecided branch = (2 ^ 64 - branch.chosen) + (2 ^ 64 - branch.out)
+undecided branch = (2 ^ SOFT_PLACES - branch.chosen) + (2 ^ SOFT_PLACES - branch.out)
 
 module _ (before after : Branch) where
   pub fewer_chosen : after.out ≡ before.out → subset before.chosen after.chosen ≡ true → undecided after ≤ undecided before
   fewer_chosen e s = omega (arith, e, part_at_most before.chosen after.chosen s)
 
-  pub falls_chosen : after.out ≡ before.out → before.chosen < after.chosen → after.chosen < 2 ^ 64 → undecided after < undecided before
+  pub falls_chosen : after.out ≡ before.out → before.chosen < after.chosen → after.chosen < 2 ^ SOFT_PLACES → undecided after < undecided before
   falls_chosen e l b = omega (arith, e, l, b)
 
-  pub falls_out : after.chosen ≡ before.chosen → before.out < after.out → after.out < 2 ^ 64 → undecided after < undecided before
+  pub falls_out : after.chosen ≡ before.chosen → before.out < after.out → after.out < 2 ^ SOFT_PLACES → undecided after < undecided before
   falls_out e l b = omega (arith, e, l, b)

@@ -16,7 +16,7 @@ use Rattle.maker_branch.specs.Narrowing.{Best, LeftOut}
 use Rattle.maker_branch.specs.declared.branches.Branch.{Branch}
 use Rattle.maker_branch.specs.declared.loads.Loads.{Loads}
 use Rattle.maker_branch.proofs.BranchLaws.{in_parts, in_from}
-use Rattle.maker_branch.proofs.Members.{none_within, none_apart, within_with, apart_with}
+use Rattle.maker_branch.proofs.SetLaws.{none_within, none_apart, within_with, apart_with}
 use Rattle.maker_branch.proofs.LoadLaws.{bound_under}
 
 module _ {W : Type 0} (K : Kind W) (laws : Laws K) (m : MakerMeaning W) where
