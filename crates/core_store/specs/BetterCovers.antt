@@ -1,6 +1,6 @@
 -- Covers that are smaller by a number, and the cheaper one of two sets.
-use Rattle.std.specs.Prelude.{◌≡◌, ℕ, Bool, true, not, ◌&&◌, if◌then◌else◌, ◌==◌}
-use Rattle.terms.specs.Masks.{member, subset}
+use Rattle.std.specs.Prelude.{◌≡◌, ℕ, Bool, true, not, ◌&&◌, if◌then◌else◌}
+use Rattle.terms.specs.Masks.{member, subset, Without}
 use Rattle.weights.specs.Costs.{cost}
 use Rattle.weights.specs.Kinds.{Kind}
 use Rattle.makers.specs.Meanings.{MakerMeaning}
@@ -11,10 +11,6 @@ pub record Smaller {W : Type 0} (m : MakerMeaning W) (whole k smaller : ℕ) : T
   pub covers : is_cover m smaller ≡ true
   pub within : subset smaller whole ≡ true
   pub needed : member smaller k ≡ true → Needed m smaller k
-
--- the rest has the members of the cover without the number k
-abbrev pub Without : ℕ → ℕ → ℕ → Type 0
-Without cover k rest = (j : ℕ) → member rest j ≡ (member cover j && not (k == j))
 
 -- the rest without the number, where it is a cover, and the whole cover if not
 abbrev pub Spared : {W : Type 0} → MakerMeaning W → ℕ → ℕ → ℕ → Type 0

@@ -4,7 +4,7 @@ ghost use Rattle.std.specs.List.{list_all};
 ghost use Rattle.std.specs.Result.{result_err};
 ghost use Rattle.std.specs.Vec.{vec_len, vec_capacity};
 ghost use Rattle.terms.specs.Masks.{subset, intersect};
-ghost use Rattle.terms.specs.Earliest.{unless_refused};
+ghost use Rattle.terms.specs.Earliest.{Changes};
 ghost use Rattle.weights.specs.Costs.{cost};
 ghost use Rattle.weights.specs.Kinds.{Totals};
 ghost use Rattle.makers.specs.Meanings.{fresh, with_weight, with_core, has_part, staying, Limited};
@@ -96,7 +96,7 @@ impl<W: WeightKind> Store<W> {
     #[tactic(auto, using(makers::proofs::MakerLaws::limited_weight))]
     pub fn add_weight(&mut self, weight: W) -> Result<(), Refusal>
         ensures refusal { result_err result ≡ weight_refused W.kind self.old weight }
-        ensures meaning { self.new ≡ unless_refused (result_err result) (with_weight self.old weight) self.old }
+        ensures meaning { Changes result (λ m. with_weight m weight) self.old self.new }
         ensures limited { Limited W.kind self.new }
     {
         self.total = self.checked_total(weight)?;
@@ -130,7 +130,7 @@ impl<W: WeightKind> Store<W> {
     #[tactic(auto, using(makers::proofs::MakerLaws::apart_kept, makers::proofs::MakerLaws::proper_kept, makers::proofs::CoreLaws::covered_kept, makers::proofs::CoreLaws::covered_part))]
     pub fn add_core(&mut self, core: SoftSet) -> Result<(), Refusal>
         ensures refusal { result_err result ≡ core_refused self.old core }
-        ensures meaning { self.new ≡ unless_refused (result_err result) (with_core self.old core) self.old }
+        ensures meaning { Changes result (λ m. with_core m core) self.old self.new }
         ensures limited { Limited W.kind self.new }
         ensures covers { IfOk result (λ _. AlsoMeets self.old core self.new) }
     {
