@@ -1,8 +1,8 @@
 -- A session writes a weight as its kind displays it.
 use Rattle.std.proofs.Common.{◌≡◌, List, refl}
 use Rattle.std.specs.Fmt.{decimal}
-use Rattle.texts.specs.Weights.{weight_text}
-use Rattle.texts.specs.declared.weight_form.WeightForm.TheVariants.{Plain as PlainForm, Levels as LevelsForm}
+use Rattle.texts.specs.WeightForms.{weight_text}
+use Rattle.texts.specs.declared.weight_forms.WeightForm.TheVariants.{Plain as PlainForm, Levels as LevelsForm}
 use Rattle.weights.specs.Levelled.{levels_kind, with_commas}
 use Rattle.weights.specs.Plainly.{plain_kind}
 use Rattle.weights.specs.declared.levels.Levels.{Levels}

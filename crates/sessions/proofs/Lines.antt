@@ -13,7 +13,7 @@ use Rattle.texts.specs.Faults.{malformed}
 use Rattle.texts.specs.Lines.{Field, Said, hard as hard_line, soft as soft_line, rounds as rounds_line, query, line_said}
 use Rattle.texts.specs.declared.faults.FieldFault.{FieldFault}
 use Rattle.texts.specs.declared.faults.LineFault.{LineFault}
-use Rattle.texts.specs.declared.weight_form.WeightForm.{WeightForm}
+use Rattle.texts.specs.declared.weight_forms.WeightForm.{WeightForm}
 use Rattle.bracket.specs.Logs.{line}
 use Rattle.bracket.specs.States.{State}
 use Rattle.bracket.specs.Steps.{Call, hard, soft, round}

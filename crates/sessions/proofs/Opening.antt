@@ -9,10 +9,10 @@ use Rattle.sessions.specs.Outputs.{finder, Opened}
 use Rattle.sessions.specs.Sessions.{TextLine, Later, Session}
 use Rattle.texts.specs.Cuts.{numbered}
 use Rattle.texts.specs.Lines.{opens_job}
-use Rattle.texts.specs.declared.line.Line.{Line}
-use Rattle.texts.specs.declared.line.Line.TheVariants.{Job as JobLine, Hard as HardLine, Soft as SoftLine, Rounds as RoundsLine, Query as QueryLine}
-use Rattle.texts.specs.declared.weight_form.WeightForm.{WeightForm}
-use Rattle.texts.specs.declared.weight_form.WeightForm.TheVariants.{Plain as PlainForm, Levels as LevelsForm}
+use Rattle.texts.specs.declared.lines.Line.{Line}
+use Rattle.texts.specs.declared.lines.Line.TheVariants.{Job as JobLine, Hard as HardLine, Soft as SoftLine, Rounds as RoundsLine, Query as QueryLine}
+use Rattle.texts.specs.declared.weight_forms.WeightForm.{WeightForm}
+use Rattle.texts.specs.declared.weight_forms.WeightForm.TheVariants.{Plain as PlainForm, Levels as LevelsForm}
 use Rattle.weights.specs.Kinds.{Kind}
 use Rattle.weights.specs.Levelled.{levels_kind}
 use Rattle.weights.specs.Plainly.{plain_kind}

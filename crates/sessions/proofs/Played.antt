@@ -8,7 +8,7 @@ use Rattle.sessions.specs.Texts.{printed}
 use Rattle.sessions.specs.Workers.{Answered, FaultPrinted, LinePlayed}
 use Rattle.sessions.specs.declared.faults.SessionFault.{SessionFault}
 use Rattle.sessions.specs.declared.faults.SessionFault.TheVariants.{Memory, Line}
-use Rattle.texts.specs.declared.weight_form.WeightForm.{WeightForm}
+use Rattle.texts.specs.declared.weight_forms.WeightForm.{WeightForm}
 use Rattle.bracket.specs.Brackets.{BracketStands, OpensBracket}
 use Rattle.bracket.specs.Logs.{Log, Logged}
 use Rattle.bracket.specs.States.{State, opened_on, are_fresh}

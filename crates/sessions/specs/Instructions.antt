@@ -2,9 +2,9 @@
 use Rattle.std.specs.Prelude.{◌≡◌, ℕ, true, List, [], ◌∷◌, ℤ, Some, None, Option, Ok, Err, Result}
 use Rattle.texts.specs.Lines.{Field, Said, job, hard as hard_line, soft as soft_line, rounds as rounds_line, query, malformed_field}
 use Rattle.texts.specs.Numbers.{literal}
-use Rattle.texts.specs.Weights.{weight_numbers}
+use Rattle.texts.specs.WeightForms.{weight_numbers}
 use Rattle.texts.specs.declared.faults.LineFault.{LineFault}
-use Rattle.texts.specs.declared.weight_form.WeightForm.{WeightForm}
+use Rattle.texts.specs.declared.weight_forms.WeightForm.{WeightForm}
 use Rattle.bracket.specs.Steps.{Call, hard, soft}
 use Rattle.weights.specs.Kinds.{Kind}
 

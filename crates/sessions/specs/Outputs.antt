@@ -11,8 +11,8 @@ use Rattle.texts.specs.Cuts.{lines, fields, numbered}
 use Rattle.texts.specs.Faults.{whole_line}
 use Rattle.texts.specs.Lines.{Said, job, line_said}
 use Rattle.texts.specs.declared.faults.LineFault.{LineFault}
-use Rattle.texts.specs.declared.weight_form.WeightForm.{WeightForm}
-use Rattle.texts.specs.declared.weight_form.WeightForm.TheVariants.{Plain, Levels}
+use Rattle.texts.specs.declared.weight_forms.WeightForm.{WeightForm}
+use Rattle.texts.specs.declared.weight_forms.WeightForm.TheVariants.{Plain, Levels}
 use Rattle.weights.specs.Levelled.{levels_kind}
 use Rattle.weights.specs.Plainly.{plain_kind}
 

@@ -8,7 +8,7 @@ use Rattle.sessions.specs.Texts.{state_text, printed, call_text}
 use Rattle.texts.specs.Cuts.{fields, numbered}
 use Rattle.texts.specs.Lines.{line_said}
 use Rattle.texts.specs.declared.faults.LineFault.{LineFault}
-use Rattle.texts.specs.declared.weight_form.WeightForm.{WeightForm}
+use Rattle.texts.specs.declared.weight_forms.WeightForm.{WeightForm}
 use Rattle.bracket.specs.Brackets.{BracketStands}
 use Rattle.bracket.specs.Logs.{Log, line, Logged}
 use Rattle.bracket.specs.States.{State, opened_on, Ended}

@@ -5,9 +5,9 @@ use Rattle.terms.specs.Clauses.{first_bad}
 use Rattle.terms.specs.declared.refusals.Refusal.{Refusal}
 use Rattle.terms.specs.declared.refusals.Refusal.TheVariants.{BadLiteral, ZeroWeight, TotalNotHeld}
 use Rattle.texts.specs.Faults.{fault_text}
-use Rattle.texts.specs.Weights.{weight_text}
+use Rattle.texts.specs.WeightForms.{weight_text}
 use Rattle.texts.specs.declared.faults.LineFault.{LineFault}
-use Rattle.texts.specs.declared.weight_form.WeightForm.{WeightForm}
+use Rattle.texts.specs.declared.weight_forms.WeightForm.{WeightForm}
 use Rattle.bracket.specs.States.{State, Plan, status}
 use Rattle.bracket.specs.Statuses.{name_of}
 use Rattle.bracket.specs.Steps.{Call, hard, soft, round}

@@ -11,7 +11,7 @@ use Rattle.texts.specs.Faults.{field_fault}
 use Rattle.texts.specs.Lines.{Field, line_said}
 use Rattle.texts.specs.declared.faults.FieldFault.{FieldFault}
 use Rattle.texts.specs.declared.faults.LineFault.{LineFault}
-use Rattle.texts.specs.declared.weight_form.WeightForm.{WeightForm}
+use Rattle.texts.specs.declared.weight_forms.WeightForm.{WeightForm}
 use Rattle.bracket.specs.Brackets.{BracketStands, KeepsBracket}
 use Rattle.bracket.specs.Logs.{Log, Logged}
 use Rattle.bracket.specs.States.{State}

@@ -4,7 +4,7 @@ ghost use Rattle.jobs.specs.Jobs.{state};
 ghost use Rattle.sessions.specs.Sessions.{Later, Session};
 ghost use Rattle.sessions.specs.Workers.{Answered, LinePlayed, FaultPrinted};
 ghost use Rattle.bracket.specs.States.{are_fresh};
-ghost use Rattle.texts.specs.Left.{left, as_numbered};
+ghost use Rattle.texts.specs.Pieces.{left, as_numbered};
 
 use crate::calls::{add_hard, add_soft, play_rounds};
 use crate::faults::SessionFault;

@@ -2,7 +2,7 @@
 ghost use Rattle.std.specs.Prelude.{◌≡◌, ◌++◌, IfOk, option_map, string_bytes, flat_map, decimal};
 ghost use Rattle.jobs.specs.Jobs.{state};
 ghost use Rattle.sessions.specs.Texts.{state_text, plan_text, ceiling_text};
-ghost use Rattle.texts.specs.Weights.{weight_text};
+ghost use Rattle.texts.specs.WeightForms.{weight_text};
 
 use makers::CoverMaker;
 use finders::Finder;

@@ -1,7 +1,7 @@
 //! Reads the clauses and the weights of lines.
 ghost use Rattle.std.specs.Prelude.{◌≡◌, MatchResult, Ok};
 ghost use Rattle.sessions.specs.Instructions.{clause};
-ghost use Rattle.texts.specs.Left.{left, as_numbered};
+ghost use Rattle.texts.specs.Pieces.{left, as_numbered};
 ghost use Rattle.sessions.specs.Workers.{ClauseFault, WeightRead};
 
 use crate::faults::SessionFault;

@@ -3,7 +3,7 @@ ghost use Rattle.std.specs.Prelude.{◌≡◌, ◌≤◌, IfOk, MatchResult, All
 ghost use Rattle.sessions.specs.Outputs.{Prints, PrintsFault, most_bytes, Opened, variables_checked, clause_places, literal_places, finder};
 ghost use Rattle.sessions.specs.Sessions.{Later};
 ghost use Rattle.finder_search.specs.Finder.{finder_meaning};
-ghost use Rattle.texts.specs.Left.{left};
+ghost use Rattle.texts.specs.Pieces.{left};
 
 use crate::faults::SessionFault;
 use crate::playing::play_lines;

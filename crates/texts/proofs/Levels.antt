@@ -5,7 +5,7 @@ use Rattle.std.specs.Str.{all_ascii_digits}
 use Rattle.std.proofs.lemmas.Bool.Decides.{nat_tests}
 use Rattle.std.proofs.lemmas.Fmt.{digits_decimal}
 use Rattle.texts.specs.Cuts.{pieces, cut}
-use Rattle.texts.specs.Weights.{Three, amount, all_three, three_of}
+use Rattle.texts.specs.WeightForms.{Three, amount, all_three, three_of}
 use Rattle.texts.proofs.Cutting.{by_cut, pieces_by_cut}
 use Rattle.texts.proofs.Decimal.{own, number_read}
 

@@ -4,9 +4,9 @@ use Rattle.std.specs.Fmt.{decimal}
 use Rattle.std.specs.Option.{option_map}
 use Rattle.std.proofs.lemmas.Fmt.{digits_decimal}
 use Rattle.texts.specs.Cuts.{cut}
-use Rattle.texts.specs.Weights.{Three, amount, all_three, weight_numbers, weight_text, Writable, WeightRead}
-use Rattle.texts.specs.declared.weight_form.WeightForm.{WeightForm}
-use Rattle.texts.specs.declared.weight_form.WeightForm.TheVariants.{Plain, Levels}
+use Rattle.texts.specs.WeightForms.{Three, amount, all_three, weight_numbers, weight_text, Writable, WeightRead}
+use Rattle.texts.specs.declared.weight_forms.WeightForm.{WeightForm}
+use Rattle.texts.specs.declared.weight_forms.WeightForm.TheVariants.{Plain, Levels}
 use Rattle.texts.proofs.Cutting.{cut_joined}
 use Rattle.texts.proofs.Decimal.{own, number-decimal}
 use Rattle.texts.proofs.Levels.{digits_alone, digits_first, amount_read, by_first, by_second, levels_by_cut}

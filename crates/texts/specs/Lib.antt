@@ -1,6 +1,6 @@
 pub mod Cuts
 pub mod Faults
-pub mod Left
 pub mod Lines
 pub mod Numbers
-pub mod Weights
+pub mod Pieces
+pub mod WeightForms

@@ -3,15 +3,15 @@ use Rattle.std.specs.Prelude.{ℕ, Bool, true, false, if◌then◌else◌, List,
 use Rattle.terms.specs.declared.refusals.Refusal.{Refusal}
 use Rattle.terms.specs.declared.refusals.Refusal.TheVariants.{WrongLetter, WrongFieldCount}
 use Rattle.texts.specs.Faults.{field_fault, whole_line, malformed}
-use Rattle.texts.specs.Left.{left, as_numbered}
+use Rattle.texts.specs.Pieces.{left, as_numbered}
 use Rattle.texts.specs.Numbers.{number, five_digits}
 use Rattle.texts.specs.declared.faults.LineFault.{LineFault}
-use Rattle.texts.specs.declared.line.Letter.{Letter}
-use Rattle.texts.specs.declared.line.Letter.TheVariants.{Job, Hard, Soft, Rounds, Query}
-use Rattle.texts.specs.declared.line.Line.{Line}
-use Rattle.texts.specs.declared.line.Line.TheVariants.{Job as JobLine, Hard as HardLine, Soft as SoftLine, Rounds as RoundsLine, Query as QueryLine}
-use Rattle.texts.specs.declared.weight_form.WeightForm.{WeightForm}
-use Rattle.texts.specs.declared.weight_form.WeightForm.TheVariants.{Plain, Levels}
+use Rattle.texts.specs.declared.lines.Letter.{Letter}
+use Rattle.texts.specs.declared.lines.Letter.TheVariants.{Job, Hard, Soft, Rounds, Query}
+use Rattle.texts.specs.declared.lines.Line.{Line}
+use Rattle.texts.specs.declared.lines.Line.TheVariants.{Job as JobLine, Hard as HardLine, Soft as SoftLine, Rounds as RoundsLine, Query as QueryLine}
+use Rattle.texts.specs.declared.weight_forms.WeightForm.{WeightForm}
+use Rattle.texts.specs.declared.weight_forms.WeightForm.TheVariants.{Plain, Levels}
 
 -- a field with its number
 abbrev pub Field : Type 0

@@ -2,7 +2,7 @@
 ghost use Rattle.std.specs.Prelude.{◌≡◌, Some};
 ghost use Rattle.terms.specs.Refusals.{layer_of};
 ghost use Rattle.texts.specs.Faults.{field_fault, whole_line, fault_text, malformed, letter_or_dash};
-ghost use Rattle.texts.specs.Left.{as_numbered};
+ghost use Rattle.texts.specs.Pieces.{as_numbered};
 
 use crate::pieces::Piece;
 use std::fmt;

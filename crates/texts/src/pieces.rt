@@ -21,7 +21,7 @@ pub struct Pieces<'a> {
 }
 
 impl<'a> Pieces<'a> {
-    ghost use Rattle.texts.specs.Left.{left};
+    ghost use Rattle.texts.specs.Pieces.{left};
 
     /// The lines of a text, numbered from 1.
     pub fn lines(text: &'a [u8]) -> Self
@@ -50,7 +50,7 @@ impl<'a> Pieces<'a> {
 }
 
 impl<'a> Iterator for Pieces<'a> {
-    ghost use Rattle.texts.specs.Left.{left, as_numbered};
+    ghost use Rattle.texts.specs.Pieces.{left, as_numbered};
 
     type Item = Piece<'a>;
 

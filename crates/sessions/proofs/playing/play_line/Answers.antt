@@ -1,6 +1,6 @@
 use Rattle.std.proofs.Common.{rules, Ok, Err, subst}
 use Rattle.jobs.specs.Jobs.{state}
-use Rattle.texts.specs.Left.{left, as_numbered}
+use Rattle.texts.specs.Pieces.{left, as_numbered}
 use Rattle.sessions.specs.Workers.{ClauseFault}
 use Rattle.texts.specs.Faults.{malformed}
 use Rattle.sessions.proofs.Lines.{unread, hard_fault, hard_made, weight_fault, soft_fault, soft_made, rounds_made, state_shown, faulted, silent, unless_memory}

@@ -2,7 +2,7 @@ use Rattle.std.proofs.Common.{rules}
 use Rattle.jobs.specs.Jobs.{state}
 use Rattle.sessions.proofs.Played.{begun, one_line_more, done}
 use Rattle.sessions.proofs.playing.play_lines.Goals as goal
-use Rattle.texts.specs.Left.{left, as_numbered}
+use Rattle.texts.specs.Pieces.{left, as_numbered}
 
 pub loop-line-init : goal.loop-line-init
 loop-line-init g c =

@@ -2,7 +2,7 @@ use Rattle.std.proofs.Common.{string_bytes}
 use Rattle.jobs.specs.Jobs.{state}
 use Rattle.sessions.proofs.Played.{SoFar}
 use Rattle.sessions.proofs.playing.play_lines.Given as goal
-use Rattle.texts.specs.Left.{left}
+use Rattle.texts.specs.Pieces.{left}
 
 abbrev pub invariant-loop-line : goal.invariant-loop-line
 invariant-loop-line g l =

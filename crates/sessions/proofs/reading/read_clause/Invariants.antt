@@ -1,6 +1,6 @@
 use Rattle.std.proofs.Common.{◌≡◌}
 use Rattle.sessions.specs.Instructions.{clause}
-use Rattle.texts.specs.Left.{left}
+use Rattle.texts.specs.Pieces.{left}
 use Rattle.sessions.proofs.Clauses.{after}
 use Rattle.sessions.proofs.reading.read_clause.Given as goal
 

@@ -3,7 +3,7 @@ use Rattle.maker_branch.specs.BranchAndBound.{maker_meaning}
 use Rattle.finder_search.specs.Finder.{finder_meaning}
 use Rattle.sessions.proofs.Opening.{opened_plain, opened_levels}
 use Rattle.sessions.proofs.session.open_job.Goals as goal
-use Rattle.texts.specs.Left.{left}
+use Rattle.texts.specs.Pieces.{left}
 
 pub returns-in-Plain : goal.returns-in-Plain
 returns-in-Plain c =

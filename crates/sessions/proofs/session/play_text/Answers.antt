@@ -2,7 +2,7 @@ use Rattle.std.proofs.Common.{rules}
 use Rattle.sessions.proofs.Opening.{is_job, first_is_1, others_are_later}
 use Rattle.sessions.proofs.session.play_text.Goals as goal
 use Rattle.texts.specs.Cuts.{lines}
-use Rattle.texts.specs.Left.{left, as_numbered}
+use Rattle.texts.specs.Pieces.{left, as_numbered}
 
 pub unreachable-requires : goal.unreachable-requires
 unreachable-requires c =

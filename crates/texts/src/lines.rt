@@ -2,14 +2,14 @@
 ghost use Rattle.std.specs.Prelude.{◌≡◌, true, false, ◌==◌, IfOk, ok_or};
 ghost use Rattle.texts.specs.Cuts.{fields, numbered};
 ghost use Rattle.texts.specs.Faults.{field_fault};
-ghost use Rattle.texts.specs.Left.{left, as_numbered};
+ghost use Rattle.texts.specs.Pieces.{left, as_numbered};
 ghost use Rattle.texts.specs.Numbers.{number};
 ghost use Rattle.texts.specs.Lines.{letter, form, line_said, job_said, soft_said, rounds_said, query_said, said_in, opens_job};
 
 use crate::faults::{FieldFault, LineFault};
 use crate::numbers::{FIVE_DIGITS, read_number};
 use crate::pieces::{Piece, Pieces};
-use crate::weight_form::WeightForm;
+use crate::weight_forms::WeightForm;
 use terms::Refusal;
 
 /// What a line is, by the letter in its first field.

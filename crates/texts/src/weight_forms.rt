@@ -1,11 +1,13 @@
-//! The two forms in which weights are written.
+//! How the weights of each kind are written in a text.
 ghost use Rattle.std.specs.Prelude.{◌≡◌, Some};
 ghost use Rattle.texts.specs.Cuts.{pieces};
-ghost use Rattle.texts.specs.Weights.{weight_numbers, WeightRead, amount, three_of, weight_text};
+ghost use Rattle.texts.specs.WeightForms.{weight_numbers, WeightRead, WeightSaid, amount, three_of, weight_text};
+ghost use Rattle.std.proofs.Common.{rules};
 
 use crate::numbers::read_number;
 use crate::pieces::cut_at;
 use std::fmt;
+use weights::{Levels, Plain, WeightKind};
 
 /// How the weights of a session are written.
 #[derive(Clone, Copy, PartialEq, Eq, Debug)]
@@ -14,6 +16,50 @@ pub enum WeightForm {
     Plain,
     /// Three numbers with commas between them.
     Levels,
+}
+
+/// A kind whose weights are read from texts, and written as the kind displays them.
+pub trait WrittenWeight: WeightKind + fmt::Display {
+    ghost use Rattle.texts.specs.declared.weight_forms.WeightForm.{WeightForm};
+
+    ghost form: { WeightForm };
+
+    /// The form of the weights.
+    fn form() -> WeightForm
+        ensures { result ≡ form };
+
+    /// The weight that the field says, if the kind can hold it.
+    fn read(field: &[u8]) -> Option<Self>
+        ensures { WeightSaid Self.kind form field.now result }
+    {
+        Self::from_numbers(Self::form().read(field)?)
+    }
+
+    ghost displayed: { (w : Self) → Self.output w ≡ Some (weight_text form (Self.kind.numbers (Self.kind.value w))) };
+}
+
+impl WrittenWeight for Plain {
+    ghost use Rattle.texts.specs.declared.weight_forms.WeightForm.TheVariants.{Plain};
+
+    ghost form = { Plain };
+
+    ghost displayed = { Prim.search rules };
+
+    fn form() -> WeightForm {
+        WeightForm::Plain
+    }
+}
+
+impl WrittenWeight for Levels {
+    ghost use Rattle.texts.specs.declared.weight_forms.WeightForm.TheVariants.{Levels};
+
+    ghost form = { Levels };
+
+    ghost displayed = { Prim.search rules };
+
+    fn form() -> WeightForm {
+        WeightForm::Levels
+    }
 }
 
 impl WeightForm {
@@ -26,25 +72,6 @@ impl WeightForm {
         match self {
             WeightForm::Plain => Some((read_amount(field)?, 0, 0)),
             WeightForm::Levels => read_levels(field),
-        }
-    }
-}
-
-/// A weight, by its three numbers, as it is written in a form.
-#[derive(Clone, Copy, PartialEq, Eq, Debug)]
-pub struct WeightText {
-    pub form: WeightForm,
-    pub numbers: (u64, u64, u64),
-}
-
-impl fmt::Display for WeightText {
-    ghost output = { λ text. Some (weight_text text.form text.numbers) };
-
-    fn fmt<W: fmt::Write>(&self, f: &mut fmt::Formatter<W>) -> fmt::Result {
-        let (first, second, third) = self.numbers;
-        match self.form {
-            WeightForm::Plain => write!(f, "{first}"),
-            WeightForm::Levels => write!(f, "{first},{second},{third}"),
         }
     }
 }

@@ -1,9 +1,11 @@
 -- How a weight is written: in plain form one number, in level form three numbers with commas between them.
-use Rattle.std.specs.Prelude.{◌≡◌, ℕ, ◌-◌, ◌^◌, ◌<◌, List, [], ◌∷◌, ◌++◌, Some, None, Option, option_map, decimal}
+use Rattle.std.specs.Prelude.{◌≡◌, ℕ, true, ◌-◌, ◌^◌, ◌<◌, List, [], ◌∷◌, Some, None, Option, option_map, decimal}
 use Rattle.texts.specs.Numbers.{number}
 use Rattle.texts.specs.Cuts.{pieces}
-use Rattle.texts.specs.declared.weight_form.WeightForm.{WeightForm}
-use Rattle.texts.specs.declared.weight_form.WeightForm.TheVariants.{Plain, Levels}
+use Rattle.texts.specs.declared.weight_forms.WeightForm.{WeightForm}
+use Rattle.texts.specs.declared.weight_forms.WeightForm.TheVariants.{Plain, Levels}
+use Rattle.weights.specs.Kinds.{Kind}
+use Rattle.weights.specs.Levelled.{with_commas}
 
 -- the three numbers of a weight, of which a plain one has the first alone
 abbrev pub Three : Type 0
@@ -11,7 +13,7 @@ Three = ℕ × ℕ × ℕ
 
 abbrev pub weight_text : WeightForm → Three → List ℕ
 weight_text Plain t = decimal t.0
-weight_text Levels t = decimal t.0 ++ 44 ∷ (decimal t.1 ++ 44 ∷ decimal t.2)
+weight_text Levels t = with_commas t
 
 -- ---- reading
 -- one of the numbers of a weight
@@ -39,3 +41,8 @@ Writable Levels t = (t.0 < 2 ^ 64) × (t.1 < 2 ^ 64) × (t.2 < 2 ^ 64)
 abbrev pub WeightRead : WeightForm → List ℕ → Option Three → Type 0
 WeightRead form field None = (t : Three) → Writable form t → field ≡ weight_text form t → ⊥
 WeightRead form field (Some t) = Writable form t × (field ≡ weight_text form t)
+
+-- the weight that a field says, or none if it says no weight that the kind can hold
+abbrev pub WeightSaid : {W : Type 0} → Kind W → WeightForm → List ℕ → Option W → Type 0
+WeightSaid K form field None = (v : K.V) → K.holds v ≡ true → weight_numbers form field ≡ Some (K.numbers v) → ⊥
+WeightSaid K form field (Some w) = weight_numbers form field ≡ Some (K.numbers (K.value w))
