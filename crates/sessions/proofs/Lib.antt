@@ -1,6 +1,7 @@
 pub mod Clauses
-pub mod Displays
-pub mod Lines
+pub mod HandedUp
+pub mod Instructing
 pub mod Opening
+pub mod Performing
 pub mod Played
 pub mod Rounds

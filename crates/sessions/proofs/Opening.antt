@@ -1,23 +1,20 @@
 -- The first line of a text, and what it opens.
-use Rattle.std.proofs.Common.{◌≡◌, ℕ, ◌+◌, ◌<◌, true, false, List, [], ◌∷◌, All, IfOk, Ok, Err, Result, refl, sym, subst, arith, rules}
+use Rattle.std.proofs.Common.{◌≡◌, ℕ, ◌+◌, ◌<◌, true, false, List, [], ◌∷◌, All, IfOk, Ok, Err, Result, refl, subst, arith, rules}
 use Rattle.std.proofs.lemmas.Bool.{both_ways}
 use Rattle.std.proofs.lemmas.Bool.Decides.{nat_tests}
 use Rattle.std.proofs.lemmas.List.Elements.{All-cons}
 use Rattle.makers.specs.Meanings.{MakerMeaning, fresh}
 use Rattle.finders.specs.Meanings.{FinderMeaning}
-use Rattle.sessions.specs.Outputs.{finder, Opened}
-use Rattle.sessions.specs.Sessions.{TextLine, Later, Session}
+use Rattle.sessions.specs.Outputs.{finder, OpenedWith}
+use Rattle.sessions.specs.Instructions.{Later}
+use Rattle.sessions.specs.Session.{Session}
+use Rattle.terms.specs.declared.limits.TheConstants.{SOFT_PLACES}
 use Rattle.texts.specs.Cuts.{numbered}
-use Rattle.texts.specs.Lines.{opens_job}
+use Rattle.texts.specs.Lines.{TextLine, opens_job}
 use Rattle.texts.specs.declared.lines.Line.{Line}
 use Rattle.texts.specs.declared.lines.Line.TheVariants.{Job as JobLine, Hard as HardLine, Soft as SoftLine, Rounds as RoundsLine, Query as QueryLine}
 use Rattle.texts.specs.declared.weight_forms.WeightForm.{WeightForm}
-use Rattle.texts.specs.declared.weight_forms.WeightForm.TheVariants.{Plain as PlainForm, Levels as LevelsForm}
 use Rattle.weights.specs.Kinds.{Kind}
-use Rattle.weights.specs.Levelled.{levels_kind}
-use Rattle.weights.specs.Plainly.{plain_kind}
-use Rattle.weights.specs.declared.levels.Levels.{Levels}
-use Rattle.weights.specs.declared.plain.Plain.{Plain}
 
 -- ---- the first line
 pub is_job : (line : Line) → opens_job line ≡ true → ((n : ℕ) (f : WeightForm) → line ≡ JobLine n f → ⊥) → ⊥
@@ -48,20 +45,9 @@ module _ (ps : List (List ℕ)) (l : TextLine) (rest : List TextLine) (e : numbe
       by_pieces (p ∷ ps) e = let others : numbered 2 ps ≡ rest = search rules in subst (All Later) others (later_from 2 (omega arith) ps)
 
 -- ---- the parts of the job
-on_parts : {W : Type 0} (K : Kind W) (w w' : WeightForm) (f f' : FinderMeaning) (m m' : MakerMeaning W) (lines : List TextLine) (text : List ℕ)
-    → w ≡ w' → f ≡ f' → m ≡ m' → Session K w f m lines text → Session K w' f' m' lines text
-on_parts K w w' f f' m m' lines text p q r session =
-    subst (λ w. Session K w f' m' lines text) p (subst (λ f. Session K w f m' lines text) q (subst (λ m. Session K w f m lines text) r session))
-
-module _ (n : ℕ) (w : WeightForm) (f : FinderMeaning) (e : f ≡ finder n) (lines : List TextLine) {T E : Type 0} (text : T → List ℕ) where
-  pub opened_plain : (m : MakerMeaning Plain) → m ≡ fresh 64 → w ≡ PlainForm → (output : Result T E)
-      → IfOk output (λ o. Session plain_kind w f m lines (text o)) → IfOk output (λ o. Opened n w lines (text o))
-  opened_plain m d is (Ok o) session =
-      subst (λ w. Opened n w lines (text o)) (sym is) (on_parts plain_kind w PlainForm f (finder n) m (fresh 64) lines (text o) is e d session)
-  opened_plain m d is (Err e) session = tt
-
-  pub opened_levels : (m : MakerMeaning Levels) → m ≡ fresh 64 → w ≡ LevelsForm → (output : Result T E)
-      → IfOk output (λ o. Session levels_kind w f m lines (text o)) → IfOk output (λ o. Opened n w lines (text o))
-  opened_levels m d is (Ok o) session =
-      subst (λ w. Opened n w lines (text o)) (sym is) (on_parts levels_kind w LevelsForm f (finder n) m (fresh 64) lines (text o) is e d session)
-  opened_levels m d is (Err e) session = tt
+module _ {W : Type 0} (K : Kind W) (form : WeightForm) (n : ℕ) (lines : List TextLine) {T E : Type 0} (text : T → List ℕ) where
+  pub opened_with : (f : FinderMeaning) → f ≡ finder n → (m : MakerMeaning W) → m ≡ fresh SOFT_PLACES → (output : Result T E)
+      → IfOk output (λ o. Session K form f m lines (text o)) → IfOk output (λ o. OpenedWith K form n lines (text o))
+  opened_with f p m q (Err e) session = tt
+  opened_with f p m q (Ok o) session =
+      subst (λ f. Session K form f (fresh SOFT_PLACES) lines (text o)) p (subst (λ m. Session K form f m lines (text o)) q session)

@@ -3,11 +3,13 @@ use Rattle.std.proofs.Common.{◌≡◌, ℕ, true, List, [], ◌∷◌, ◌++�
 use Rattle.std.proofs.lemmas.List.Elements.{All-rest}
 use Rattle.makers.specs.Meanings.{MakerMeaning}
 use Rattle.finders.specs.Meanings.{FinderMeaning}
-use Rattle.sessions.specs.Sessions.{TextLine, Later, Lines, none, one_more, Session}
-use Rattle.sessions.specs.Texts.{printed}
-use Rattle.sessions.specs.Workers.{Answered, FaultPrinted, LinePlayed}
+use Rattle.sessions.specs.Instructions.{Later}
+use Rattle.sessions.specs.Session.{Lines, none, one_more, Session, FaultPrinted}
+use Rattle.sessions.specs.Printing.{printed}
+use Rattle.sessions.specs.Playing.{Answered, LinePlayed}
 use Rattle.sessions.specs.declared.faults.SessionFault.{SessionFault}
 use Rattle.sessions.specs.declared.faults.SessionFault.TheVariants.{Memory, Line}
+use Rattle.texts.specs.Lines.{TextLine}
 use Rattle.texts.specs.declared.weight_forms.WeightForm.{WeightForm}
 use Rattle.bracket.specs.Brackets.{BracketStands, OpensBracket}
 use Rattle.bracket.specs.Logs.{Log, Logged}

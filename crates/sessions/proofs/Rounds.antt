@@ -2,8 +2,7 @@
 use Rattle.std.proofs.Common.{◌≡◌, ℕ, ◌+◌, ◌<◌, ◌≤◌, [], ◌∷◌, ◌++◌, Some, None, Option, Ok, Err, Result, refl, sym, subst, ◌∙◌, add-one, rules, Bool, IsTrue, IsFalse, ◌↔◌}
 use Rattle.std.proofs.lemmas.Bool.{both_ways}
 use Rattle.terms.specs.declared.refusals.Refusal.{Refusal}
-use Rattle.sessions.specs.Sessions.{Rounds, none, one_more, all_played, has_ended, refused}
-use Rattle.sessions.specs.Workers.{Continues, Called, PlayedRounds, call_result}
+use Rattle.sessions.specs.Calls.{Rounds, none, one_more, all_played, has_ended, refused, Continues, Called, PlayedRounds, call_result}
 use Rattle.texts.specs.declared.faults.LineFault.{LineFault}
 use Rattle.bracket.specs.Brackets.{KeepsBracket}
 use Rattle.bracket.specs.Logs.{Log, line}

@@ -1,18 +1,34 @@
--- What a line of a session tells the job to do.
-use Rattle.std.specs.Prelude.{◌≡◌, ℕ, true, List, [], ◌∷◌, ℤ, Some, None, Option, Ok, Err, Result}
-use Rattle.texts.specs.Lines.{Field, Said, job, hard as hard_line, soft as soft_line, rounds as rounds_line, query, malformed_field}
+-- What a line of a session tells to do.
+use Rattle.std.specs.Prelude.{◌≡◌, ℕ, false, ◌==◌, List, [], ◌∷◌, ℤ, Some, None, Option, Ok, Err, Result}
+use Rattle.bracket.specs.Steps.{Call, hard, soft}
+use Rattle.sessions.specs.Faults.{UnlessMemory}
+use Rattle.sessions.specs.declared.faults.SessionFault.{SessionFault}
+use Rattle.sessions.specs.declared.instructions.Instruction.{Instruction}
+use Rattle.sessions.specs.declared.instructions.Instruction.TheVariants.{Hard, Soft, Rounds, Query}
+use Rattle.texts.specs.Faults.{field_fault}
+use Rattle.texts.specs.Lines.{TextLine, Field, Said, job, hard as hard_line, soft as soft_line, rounds as rounds_line, query, malformed_field}
 use Rattle.texts.specs.Numbers.{literal}
-use Rattle.texts.specs.WeightForms.{weight_numbers}
+use Rattle.texts.specs.WeightForms.{WeightSaid}
+use Rattle.texts.specs.declared.faults.FieldFault.{FieldFault}
 use Rattle.texts.specs.declared.faults.LineFault.{LineFault}
 use Rattle.texts.specs.declared.weight_forms.WeightForm.{WeightForm}
-use Rattle.bracket.specs.Steps.{Call, hard, soft}
 use Rattle.weights.specs.Kinds.{Kind}
 
+-- not the first line of a text
+abbrev pub Later : TextLine → Type 0
+Later l = (l.0 == 1) ≡ false
+
 -- a call, a number of rounds at most, or the printing of the state
-pub data Instruction (W : Type 0) : Type 0 where
-  calls : Call W → Instruction W
-  rounds : ℕ → Instruction W
-  shows : Instruction W
+pub data Told (W : Type 0) : Type 0 where
+  calls : Call W → Told W
+  rounds : ℕ → Told W
+  shows : Told W
+
+abbrev pub told_by : {W : Type 0} → Instruction W → Told W
+told_by (Hard c) = calls (hard c.items)
+told_by (Soft w c) = calls (soft w c.items)
+told_by (Rounds count) = rounds count
+told_by Query = shows
 
 -- ---- literals
 abbrev pub with_literal : ℕ → Field → Option ℤ → Result (List ℤ) LineFault → Result (List ℤ) LineFault
@@ -25,29 +41,35 @@ abbrev pub clause : ℕ → List Field → Result (List ℤ) LineFault
 clause line [] = Ok []
 clause line (field ∷ fields) = with_literal line field (literal field.1) (clause line fields)
 
--- ---- instructions
+-- ---- what a line tells
 module _ {W : Type 0} where
-  abbrev pub hard_call : Result (List ℤ) LineFault → Result (Instruction W) LineFault
-  hard_call (Ok c) = Ok (calls (hard c))
-  hard_call (Err fault) = Err fault
+  abbrev pub hard_told : Result (List ℤ) LineFault → Result (Told W) LineFault
+  hard_told (Ok c) = Ok (calls (hard c))
+  hard_told (Err fault) = Err fault
 
   -- the weight stands before the literals
-  abbrev pub soft_call : ℕ → Field → Option W → Result (List ℤ) LineFault → Result (Instruction W) LineFault
-  soft_call line field None c = Err (malformed_field line field)
-  soft_call line field (Some w) (Ok c) = Ok (calls (soft w c))
-  soft_call line field (Some w) (Err fault) = Err fault
+  abbrev pub soft_told : ℕ → Field → Option W → Result (List ℤ) LineFault → Result (Told W) LineFault
+  soft_told line field None c = Err (malformed_field line field)
+  soft_told line field (Some w) (Ok c) = Ok (calls (soft w c))
+  soft_told line field (Some w) (Err fault) = Err fault
 
 module _ {W : Type 0} (K : Kind W) (form : WeightForm) where
-  -- the weight that a field says, or none if it says no weight that the kind can hold
-  abbrev pub WeightSaid : List ℕ → Option W → Type 0
-  WeightSaid field None = (v : K.V) → K.holds v ≡ true → weight_numbers form field ≡ Some (K.numbers v) → ⊥
-  WeightSaid field (Some w) = weight_numbers form field ≡ Some (K.numbers (K.value w))
-
   -- what a line tells to do, or what is wrong with it; no line but the first opens a job
-  abbrev pub Instructs : ℕ → Result Said LineFault → Result (Instruction W) LineFault → Type 0
+  abbrev pub Instructs : ℕ → Result Said LineFault → Result (Told W) LineFault → Type 0
   Instructs line (Err fault) i = i ≡ Err fault
   Instructs line (Ok (job n f)) i = ⊥
-  Instructs line (Ok (hard_line fields)) i = i ≡ hard_call (clause line fields)
-  Instructs line (Ok (soft_line weight fields)) i = (w : Option W) × WeightSaid weight.1 w × (i ≡ soft_call line weight w (clause line fields))
+  Instructs line (Ok (hard_line fields)) i = i ≡ hard_told (clause line fields)
+  Instructs line (Ok (soft_line weight fields)) i =
+      (w : Option W) × WeightSaid K form weight.1 w × (i ≡ soft_told line weight w (clause line fields))
   Instructs line (Ok (rounds_line count)) i = i ≡ Ok (rounds count)
   Instructs line (Ok query) i = i ≡ Ok shows
+
+  -- ---- reading
+  abbrev pub WeightRead : ℕ → Field → Result W FieldFault → Type 0
+  WeightRead line field (Ok w) = WeightSaid K form field.1 (Some w)
+  WeightRead line field (Err fault) = WeightSaid K form field.1 None × (fault ≡ field_fault line field)
+
+-- what was read is so, or the fault to which the reading came, unless memory ran out
+abbrev pub ReadAs : {A T : Type 0} → (T → A) → (Result A LineFault → Type 0) → Result T SessionFault → Type 0
+ReadAs view Says (Ok t) = Says (Ok (view t))
+ReadAs view Says (Err f) = UnlessMemory (λ fault. Says (Err fault)) f

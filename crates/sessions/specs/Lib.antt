@@ -1,5 +1,7 @@
+pub mod Calls
+pub mod Faults
 pub mod Instructions
-pub mod Texts
-pub mod Sessions
 pub mod Outputs
-pub mod Workers
+pub mod Playing
+pub mod Printing
+pub mod Session

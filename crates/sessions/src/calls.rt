@@ -4,8 +4,7 @@ ghost use Rattle.terms.specs.Clauses.{first_bad};
 ghost use Rattle.bracket.specs.States.{Ended};
 ghost use Rattle.bracket.specs.Steps.{hard as hard_call, soft as soft_call, round as round_call};
 ghost use Rattle.jobs.specs.Jobs.{state};
-ghost use Rattle.sessions.specs.Texts.{clause_field};
-ghost use Rattle.sessions.specs.Workers.{Called, PlayedRounds};
+ghost use Rattle.sessions.specs.Calls.{clause_field, Called, PlayedRounds};
 
 use makers::CoverMaker;
 use finders::Finder;

@@ -3,9 +3,11 @@
 
 mod calls;
 mod faults;
+mod instructions;
+mod outputs;
 mod playing;
 mod printing;
-mod reading;
 mod session;
 
-pub use session::{MOST_BYTES, play};
+pub use outputs::play;
+pub use terms::limits::MOST_BYTES;

@@ -1,48 +1,36 @@
 //! Prints the state of a job.
 ghost use Rattle.std.specs.Prelude.{◌≡◌, ◌++◌, IfOk, option_map, string_bytes, flat_map, decimal};
 ghost use Rattle.jobs.specs.Jobs.{state};
-ghost use Rattle.sessions.specs.Texts.{state_text, plan_text, ceiling_text};
-ghost use Rattle.texts.specs.WeightForms.{weight_text};
+ghost use Rattle.sessions.specs.Printing.{state_text, plan_text, ceiling_text};
 
-use makers::CoverMaker;
 use finders::Finder;
 use jobs::Job;
+use makers::CoverMaker;
 use std::alloc::{AllocError, Global};
-use texts::{WeightForm, WeightText};
-use weights::WeightKind;
+use texts::WrittenWeight;
 
 /// Prints the status, the floor, the ceiling and the kept assignment, each after a tab.
 pub(crate) fn show<F: Finder, C: CoverMaker>(
     alloc: Global,
-    form: WeightForm,
     job: &Job<F, C>,
     output: &mut String,
 ) -> Result<(), AllocError>
-    ensures { IfOk result (λ _. string_bytes output.new ≡ string_bytes output.old ++ state_text C.Weight.kind form (state job.now)) }
+where
+    C::Weight: WrittenWeight,
+    ensures { IfOk result (λ _. string_bytes output.new ≡ string_bytes output.old ++ state_text C.Weight.kind C.Weight.form (state job.now)) }
 {
     let bracket = job.bracket();
     let status = job.status();
-    let floor = written(form, bracket.floor);
+    let floor = bracket.floor;
     write!(output, "q\t{status}\t{floor}\t")?;
     match (bracket.ceiling, kept_values(alloc, job)?) {
         (Some(ceiling), Some(values)) => {
-            let ceiling = written(form, ceiling);
             write!(output, "{ceiling}\t")?;
             put_values(output, &values)?;
         }
         _ => write!(output, "-\t-")?,
     }
     output.push('\n')
-}
-
-/// A weight in the form in which it is printed.
-fn written<W: WeightKind>(form: WeightForm, weight: W) -> WeightText
-    ensures { weight_text result.form result.numbers ≡ weight_text form (W.WeightKind.kind.numbers (W.WeightKind.kind.value weight)) }
-{
-    WeightText {
-        form,
-        numbers: weight.to_numbers(),
-    }
 }
 
 /// The values of the kept assignment, if there is one.

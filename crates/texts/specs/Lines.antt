@@ -1,19 +1,25 @@
 -- What a line of a session says, or what is wrong with it.
 use Rattle.std.specs.Prelude.{ℕ, Bool, true, false, if◌then◌else◌, List, [], ◌∷◌, Some, None, Option, Ok, Err, Result, ◌==◌}
+use Rattle.terms.specs.declared.limits.TheConstants.{MOST_ROUNDS}
 use Rattle.terms.specs.declared.refusals.Refusal.{Refusal}
 use Rattle.terms.specs.declared.refusals.Refusal.TheVariants.{WrongLetter, WrongFieldCount}
+use Rattle.texts.specs.Cuts.{fields, numbered}
 use Rattle.texts.specs.Faults.{field_fault, whole_line, malformed}
 use Rattle.texts.specs.Pieces.{left, as_numbered}
-use Rattle.texts.specs.Numbers.{number, five_digits}
+use Rattle.texts.specs.Numbers.{number}
 use Rattle.texts.specs.declared.faults.LineFault.{LineFault}
 use Rattle.texts.specs.declared.lines.Letter.{Letter}
 use Rattle.texts.specs.declared.lines.Letter.TheVariants.{Job, Hard, Soft, Rounds, Query}
 use Rattle.texts.specs.declared.lines.Line.{Line}
 use Rattle.texts.specs.declared.lines.Line.TheVariants.{Job as JobLine, Hard as HardLine, Soft as SoftLine, Rounds as RoundsLine, Query as QueryLine}
+use Rattle.texts.specs.declared.numbers.TheConstants.{FIVE_DIGITS}
 use Rattle.texts.specs.declared.weight_forms.WeightForm.{WeightForm}
 use Rattle.texts.specs.declared.weight_forms.WeightForm.TheVariants.{Plain, Levels}
 
--- a field with its number
+-- a line of a text, and a field of a line, with its number
+abbrev pub TextLine : Type 0
+TextLine = ℕ × List ℕ
+
 abbrev pub Field : Type 0
 Field = ℕ × List ℕ
 
@@ -71,23 +77,19 @@ job_by line n kind (Some v) None = Err (malformed_field line kind)
 job_by line n kind (Some v) (Some f) = Ok (job v f)
 
 abbrev pub job_said : ℕ → List Field → Result Said LineFault
-job_said line (n ∷ kind ∷ []) = job_by line n kind (number five_digits n.1) (form kind.1)
+job_said line (n ∷ kind ∷ []) = job_by line n kind (number FIVE_DIGITS n.1) (form kind.1)
 job_said line fields = refused_whole line WrongFieldCount
 
 abbrev pub soft_said : ℕ → List Field → Result Said LineFault
 soft_said line [] = refused_whole line WrongFieldCount
 soft_said line (weight ∷ literals) = Ok (soft weight literals)
 
--- the most rounds that a line asks for
-abbrev pub most_rounds : ℕ
-most_rounds = 65535
-
 abbrev pub rounds_by : ℕ → Field → Option ℕ → Result Said LineFault
 rounds_by line count None = Err (malformed_field line count)
 rounds_by line count (Some k) = Ok (rounds k)
 
 abbrev pub rounds_said : ℕ → List Field → Result Said LineFault
-rounds_said line (count ∷ []) = rounds_by line count (number most_rounds count.1)
+rounds_said line (count ∷ []) = rounds_by line count (number MOST_ROUNDS count.1)
 rounds_said line fields = refused_whole line WrongFieldCount
 
 abbrev pub query_said : ℕ → List Field → Result Said LineFault
@@ -103,6 +105,9 @@ said_after line (Some Rounds) false fields = rounds_said line fields
 said_after line (Some Query) false fields = query_said line fields
 said_after line letter first fields = refused_whole line WrongLetter
 
-abbrev pub line_said : ℕ → List Field → Result Said LineFault
-line_said line [] = refused_whole line WrongLetter
-line_said line (tag ∷ fields) = said_after line (letter tag.1) (line == 1) fields
+abbrev pub said_by_fields : ℕ → List Field → Result Said LineFault
+said_by_fields line [] = refused_whole line WrongLetter
+said_by_fields line (tag ∷ fields) = said_after line (letter tag.1) (line == 1) fields
+
+abbrev pub line_said : TextLine → Result Said LineFault
+line_said l = said_by_fields l.0 (numbered 1 (fields l.1))

@@ -3,6 +3,7 @@ use Rattle.std.specs.Prelude.{◌≡◌, ℕ, zero, suc, ◌+◌, ◌-◌, ◌*�
 use Rattle.std.specs.Char.{is_ascii_digit}
 use Rattle.std.specs.Fmt.{signed_decimal}
 use Rattle.terms.specs.Clauses.{variable}
+use Rattle.texts.specs.declared.numbers.TheConstants.{FIVE_DIGITS}
 
 -- ---- numbers
 -- n with these digits after it, up to a greatest number
@@ -23,10 +24,6 @@ NumberRead most field None = (n : ℕ) → n ≤ most → field ≡ decimal n �
 NumberRead most field (Some n) = (n ≤ most) × (field ≡ decimal n)
 
 -- ---- literals
--- the greatest number of five digits
-abbrev pub five_digits : ℕ
-five_digits = 99999
-
 -- there is no minus before zero
 abbrev pub negative : Option ℕ → Option ℤ
 negative None = None
@@ -36,9 +33,9 @@ negative (Some (suc k)) = Some (negsuc k)
 -- a number of at most five digits, with or without a minus
 abbrev pub literal : List ℕ → Option ℤ
 literal [] = None
-literal (c ∷ cs) = if c == 45 then negative (number five_digits cs) else option_map pos (number five_digits (c ∷ cs))
+literal (c ∷ cs) = if c == 45 then negative (number FIVE_DIGITS cs) else option_map pos (number FIVE_DIGITS (c ∷ cs))
 
 -- the same told by what is written
 abbrev pub LiteralRead : List ℕ → Option ℤ → Type 0
-LiteralRead field None = (l : ℤ) → variable l ≤ five_digits → field ≡ signed_decimal l → ⊥
-LiteralRead field (Some l) = (variable l ≤ five_digits) × (field ≡ signed_decimal l)
+LiteralRead field None = (l : ℤ) → variable l ≤ FIVE_DIGITS → field ≡ signed_decimal l → ⊥
+LiteralRead field (Some l) = (variable l ≤ FIVE_DIGITS) × (field ≡ signed_decimal l)

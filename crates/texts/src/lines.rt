@@ -1,6 +1,5 @@
 //! Reads a line of a session.
 ghost use Rattle.std.specs.Prelude.{◌≡◌, true, false, ◌==◌, IfOk, ok_or};
-ghost use Rattle.texts.specs.Cuts.{fields, numbered};
 ghost use Rattle.texts.specs.Faults.{field_fault};
 ghost use Rattle.texts.specs.Pieces.{left, as_numbered};
 ghost use Rattle.texts.specs.Numbers.{number};
@@ -11,6 +10,7 @@ use crate::numbers::{FIVE_DIGITS, read_number};
 use crate::pieces::{Piece, Pieces};
 use crate::weight_forms::WeightForm;
 use terms::Refusal;
+use terms::limits::MOST_ROUNDS;
 
 /// What a line is, by the letter in its first field.
 #[derive(Clone, Copy)]
@@ -44,7 +44,7 @@ pub enum Line<'a> {
 
 /// Reads the line, of which only the first one opens a job.
 pub fn read_line<'a>(line: Piece<'a>) -> Result<Line<'a>, LineFault>
-    ensures says { said_in result ≡ line_said line.entry.number (numbered 1 (fields line.entry.bytes.now)) }
+    ensures says { said_in result ≡ line_said (as_numbered line.entry) }
     ensures first { IfOk result (λ read. opens_job read ≡ (line.entry.number == 1)) }
 {
     let number = line.number;
@@ -103,9 +103,6 @@ fn read_soft<'a>(line: usize, mut fields: Pieces<'a>) -> Result<Line<'a>, LineFa
         literals: fields,
     })
 }
-
-/// The most rounds that a line asks for.
-const MOST_ROUNDS: u64 = 65_535;
 
 /// Line r: a count.
 fn read_rounds<'a>(line: usize, mut fields: Pieces<'a>) -> Result<Line<'a>, LineFault>

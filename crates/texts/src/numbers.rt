@@ -1,6 +1,9 @@
 //! Reads a field as a number, and as a literal.
 ghost use Rattle.std.specs.Prelude.{◌≡◌, ◌≤◌, [], ◌∷◌, Some};
-ghost use Rattle.texts.specs.Numbers.{number, with_digits, NumberRead, five_digits, negative, literal, LiteralRead};
+ghost use Rattle.texts.specs.Numbers.{number, with_digits, NumberRead, negative, literal, LiteralRead};
+
+/// The greatest number of five digits.
+pub(crate) const FIVE_DIGITS: u64 = 99_999;
 
 /// A number without a leading zero, up to `most`.
 #[tactic(auto, using(crate::proofs::Decimal::number_laws))]
@@ -36,9 +39,6 @@ fn with_digit(n: u64, byte: u8, most: u64) -> Option<u64>
     (longer <= most).then_some(longer)
 }
 
-/// The greatest number of five digits.
-pub(crate) const FIVE_DIGITS: u64 = 99_999;
-
 /// A number of at most five digits, with or without a minus before it; there is no minus before 0.
 pub fn read_literal(field: &[u8]) -> Option<i32>
     ensures value { result ≡ literal field.now }
@@ -52,7 +52,7 @@ pub fn read_literal(field: &[u8]) -> Option<i32>
 
 /// The number with a minus before it.
 fn negative(n: u64) -> Option<i32>
-    requires { n ≤ five_digits }
+    requires { n ≤ FIVE_DIGITS }
     ensures { result ≡ negative (Some n) }
 {
     if n == 0 {

@@ -1,0 +1,38 @@
+-- What a line leads to when it is played.
+use Rattle.std.specs.Prelude.{◌≡◌, ℕ, List, [], ◌∷◌, ◌++◌, Option, Ok, Err, Result}
+use Rattle.bracket.specs.Logs.{Log, line}
+use Rattle.bracket.specs.States.{State}
+use Rattle.bracket.specs.Steps.{Call, round, Step}
+use Rattle.sessions.specs.Calls.{RoundsPlayed, Continues, call_result, result_text}
+use Rattle.sessions.specs.Faults.{UnlessMemory}
+use Rattle.sessions.specs.Instructions.{Told, calls, rounds, shows, Instructs}
+use Rattle.sessions.specs.Printing.{state_text, printed}
+use Rattle.sessions.specs.declared.faults.SessionFault.{SessionFault}
+use Rattle.terms.specs.declared.refusals.Refusal.{Refusal}
+use Rattle.texts.specs.Lines.{TextLine, line_said}
+use Rattle.texts.specs.declared.faults.LineFault.{LineFault}
+use Rattle.texts.specs.declared.weight_forms.WeightForm.{WeightForm}
+use Rattle.weights.specs.Kinds.{Kind}
+
+module _ {W : Type 0} {K : Kind W} (form : WeightForm) where
+  -- what an instruction, or the fault to which its reading came, leads to: the calls that were made, newest first, the state
+  -- that they left, and what was printed
+  pub data Played (number : ℕ) (s : State K) : Result (Told W) LineFault → Log K → State K → List ℕ → Type 0 where
+    not_read : {fault : LineFault} → Played number s (Err fault) [] s (printed fault)
+    called : {c : Call W} {r : Option Refusal} {t : State K} → Step s c r t
+        → Played number s (Ok (calls c)) (line c r t ∷ []) t (result_text (call_result number s.finder.n c r))
+    played : {count : ℕ} {log : Log K} {t : State K} {r : Option Refusal} → RoundsPlayed count s log t r
+        → Played number s (Ok (rounds count)) log t (result_text (call_result {W = W} number 0 round r))
+    shown : Played number s (Ok shows) [] s (state_text K form s)
+
+  -- a line was played by such calls, and the bracket stands on the log that they go on to
+  abbrev pub Performed : ℕ → Result (Told W) LineFault → State K → State K → List ℕ → Type 0
+  Performed number i s t text = (more : Log K) × Played number s i more t text × Continues s more t
+
+  abbrev pub LinePlayed : TextLine → State K → State K → List ℕ → Type 0
+  LinePlayed l s t text = (i : Result (Told W) LineFault) × Instructs K form l.0 (line_said l) i × Performed l.0 i s t text
+
+-- a line printed a text, the fault at its end being left to print, unless memory ran out
+abbrev pub Answered : (List ℕ → Type 0) → List ℕ → List ℕ → Result (Unit {0}) SessionFault → Type 0
+Answered Prints old new (Ok u) = (text : List ℕ) × Prints text × (new ≡ old ++ text)
+Answered Prints old new (Err f) = UnlessMemory (λ fault. Prints (printed fault) × (new ≡ old)) f

@@ -1,0 +1,34 @@
+-- What is printed: the state of a job, and the fault of a line.
+use Rattle.std.specs.Prelude.{ℕ, List, [], ◌∷◌, ◌++◌, Some, None, Option, codes, decimal}
+use Rattle.std.specs.List.{join_with_byte, flat_map}
+use Rattle.bracket.specs.States.{State, Plan, status}
+use Rattle.bracket.specs.Statuses.{name_of}
+use Rattle.texts.specs.Faults.{fault_text}
+use Rattle.texts.specs.WeightForms.{weight_text}
+use Rattle.texts.specs.declared.faults.LineFault.{LineFault}
+use Rattle.texts.specs.declared.weight_forms.WeightForm.{WeightForm}
+use Rattle.weights.specs.Kinds.{Kind}
+
+-- a line ends with byte 10
+abbrev pub ended : List ℕ → List ℕ
+ended line = line ++ 10 ∷ []
+
+abbrev pub printed : LineFault → List ℕ
+printed fault = ended (fault_text fault)
+
+module _ {W : Type 0} (K : Kind W) (form : WeightForm) where
+  -- a dash stands for what is absent
+  abbrev pub ceiling_text : Option (Plan K.V) → List ℕ
+  ceiling_text None = codes "-"
+  ceiling_text (Some p) = weight_text form (K.numbers p.cost)
+
+  -- the value of each variable in turn
+  abbrev pub plan_text : Option (Plan K.V) → List ℕ
+  plan_text None = codes "-"
+  plan_text (Some p) = flat_map decimal p.values
+
+  -- q, the status, the floor, the ceiling and the assignment, with tabs between them
+  abbrev pub state_text : State K → List ℕ
+  state_text s = ended (join_with_byte 9 (
+      codes "q" ∷ name_of (status s) ∷ weight_text form (K.numbers s.floor) ∷ ceiling_text s.kept ∷ plan_text s.kept ∷ []
+      ))
