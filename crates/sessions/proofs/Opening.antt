@@ -1,8 +1,9 @@
 -- The first line of a text, and what it opens.
-use Rattle.std.proofs.Common.{◌≡◌, ℕ, ◌+◌, ◌<◌, true, false, List, [], ◌∷◌, All, IfOk, Ok, Err, Result, refl, subst, arith, rules}
+use Rattle.std.proofs.Common.{◌≡◌, ℕ, ◌+◌, ◌<◌, true, false, List, [], ◌∷◌, All, IfOk, Ok, Err, Result, refl, subst, ◌∙◌, arith, rules}
 use Rattle.std.proofs.lemmas.Bool.{both_ways}
 use Rattle.std.proofs.lemmas.Bool.Decides.{nat_tests}
 use Rattle.std.proofs.lemmas.List.Elements.{All-cons}
+use Rattle.bracket.specs.States.{State, opened_on}
 use Rattle.makers.specs.Meanings.{MakerMeaning, fresh}
 use Rattle.finders.specs.Meanings.{FinderMeaning}
 use Rattle.sessions.specs.Outputs.{finder, OpenedWith}
@@ -45,9 +46,11 @@ module _ (ps : List (List ℕ)) (l : TextLine) (rest : List TextLine) (e : numbe
       by_pieces (p ∷ ps) e = let others : numbered 2 ps ≡ rest = search rules in subst (All Later) others (later_from 2 (omega arith) ps)
 
 -- ---- the parts of the job
-module _ {W : Type 0} (K : Kind W) (form : WeightForm) (n : ℕ) (lines : List TextLine) {T E : Type 0} (text : T → List ℕ) where
-  pub opened_with : (f : FinderMeaning) → f ≡ finder n → (m : MakerMeaning W) → m ≡ fresh SOFT_PLACES → (output : Result T E)
-      → IfOk output (λ o. Session K form f m lines (text o)) → IfOk output (λ o. OpenedWith K form n lines (text o))
-  opened_with f p m q (Err e) session = tt
-  opened_with f p m q (Ok o) session =
-      subst (λ f. Session K form f (fresh SOFT_PLACES) lines (text o)) p (subst (λ m. Session K form f m lines (text o)) q session)
+module _ {W : Type 0} {K : Kind W} (form : WeightForm) (n : ℕ) (lines : List TextLine) {T E : Type 0} (text : T → List ℕ) where
+  pub opened_with : (f : FinderMeaning) → f ≡ finder n → (m : MakerMeaning W) → m ≡ fresh SOFT_PLACES → (s : State K) → s ≡ opened_on K f m
+      → (output : Result T E) → IfOk output (λ o. Session form s lines (text o)) → IfOk output (λ o. OpenedWith K form n lines (text o))
+  opened_with f p m q s e (Err x) session = tt
+  opened_with f p m q s e (Ok o) session = subst (λ s. Session form s lines (text o)) (e ∙ opened) session
+    where
+      opened : opened_on K f m ≡ opened_on K (finder n) (fresh SOFT_PLACES)
+      opened = subst (λ g. opened_on K f m ≡ opened_on K g (fresh SOFT_PLACES)) p (subst (λ w. opened_on K f m ≡ opened_on K f w) q refl)

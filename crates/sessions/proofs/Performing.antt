@@ -8,7 +8,7 @@ use Rattle.sessions.specs.Instructions.{Told, calls, rounds, shows, Instructs}
 use Rattle.sessions.specs.Playing.{Played, called, played, shown, not_read, Performed, LinePlayed}
 use Rattle.sessions.specs.Printing.{state_text, printed}
 use Rattle.sessions.proofs.Rounds.{stays, goes_on}
-use Rattle.texts.specs.Lines.{TextLine, line_said}
+use Rattle.texts.specs.Lines.{TextLine}
 use Rattle.texts.specs.declared.faults.LineFault.{LineFault}
 use Rattle.texts.specs.declared.weight_forms.WeightForm.{WeightForm}
 use Rattle.weights.specs.Kinds.{Kind}
@@ -36,5 +36,5 @@ module _ {W : Type 0} {K : Kind W} (form : WeightForm) (number : ℕ) (s : State
   state_shown is = ([], subst (λ i. Played form number s (Ok i) [] s (state_text K form s)) (sym is) shown, stays s)
 
 module _ {W : Type 0} {K : Kind W} (form : WeightForm) (l : TextLine) (s : State K) where
-  pub unread : (fault : LineFault) → Instructs K form l.0 (line_said l) (Err fault) → LinePlayed form l s s (printed fault)
+  pub unread : (fault : LineFault) → Instructs K form l (Err fault) → LinePlayed form l s s (printed fault)
   unread fault told = (Err fault, told, ([], not_read, stays s))

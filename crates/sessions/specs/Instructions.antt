@@ -6,7 +6,7 @@ use Rattle.sessions.specs.declared.faults.SessionFault.{SessionFault}
 use Rattle.sessions.specs.declared.instructions.Instruction.{Instruction}
 use Rattle.sessions.specs.declared.instructions.Instruction.TheVariants.{Hard, Soft, Rounds, Query}
 use Rattle.texts.specs.Faults.{field_fault}
-use Rattle.texts.specs.Lines.{TextLine, Field, Said, job, hard as hard_line, soft as soft_line, rounds as rounds_line, query, malformed_field}
+use Rattle.texts.specs.Lines.{TextLine, Field, Said, job, hard as hard_line, soft as soft_line, rounds as rounds_line, query, malformed_field, line_said}
 use Rattle.texts.specs.Numbers.{literal}
 use Rattle.texts.specs.WeightForms.{WeightSaid}
 use Rattle.texts.specs.declared.faults.FieldFault.{FieldFault}
@@ -54,15 +54,18 @@ module _ {W : Type 0} where
   soft_told line field (Some w) (Err fault) = Err fault
 
 module _ {W : Type 0} (K : Kind W) (form : WeightForm) where
-  -- what a line tells to do, or what is wrong with it; no line but the first opens a job
-  abbrev pub Instructs : ℕ → Result Said LineFault → Result (Told W) LineFault → Type 0
-  Instructs line (Err fault) i = i ≡ Err fault
-  Instructs line (Ok (job n f)) i = ⊥
-  Instructs line (Ok (hard_line fields)) i = i ≡ hard_told (clause line fields)
-  Instructs line (Ok (soft_line weight fields)) i =
+  -- what the said tells to do, or what is wrong with it; no line but the first opens a job
+  abbrev pub Tells : ℕ → Result Said LineFault → Result (Told W) LineFault → Type 0
+  Tells line (Err fault) i = i ≡ Err fault
+  Tells line (Ok (job n f)) i = ⊥
+  Tells line (Ok (hard_line fields)) i = i ≡ hard_told (clause line fields)
+  Tells line (Ok (soft_line weight fields)) i =
       (w : Option W) × WeightSaid K form weight.1 w × (i ≡ soft_told line weight w (clause line fields))
-  Instructs line (Ok (rounds_line count)) i = i ≡ Ok (rounds count)
-  Instructs line (Ok query) i = i ≡ Ok shows
+  Tells line (Ok (rounds_line count)) i = i ≡ Ok (rounds count)
+  Tells line (Ok query) i = i ≡ Ok shows
+
+  abbrev pub Instructs : TextLine → Result (Told W) LineFault → Type 0
+  Instructs l i = Tells l.0 (line_said l) i
 
   -- ---- reading
   abbrev pub WeightRead : ℕ → Field → Result W FieldFault → Type 0

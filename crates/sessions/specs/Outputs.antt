@@ -1,5 +1,6 @@
 -- What a session text prints.
 use Rattle.std.specs.Prelude.{◌≡◌, ℕ, Bool, true, false, List, [], ◌∷◌, length, Some, None, Option, Ok, Err, Result, nat_lt}
+use Rattle.bracket.specs.States.{opened_on}
 use Rattle.finders.specs.Meanings.{FinderMeaning, fresh as fresh_finder}
 use Rattle.finders.specs.Refused.{variables_refused}
 use Rattle.makers.specs.Meanings.{fresh as fresh_maker}
@@ -26,7 +27,7 @@ finder n = fresh_finder n SOFT_PLACES SESSION_CLAUSES SESSION_LITERALS
 
 -- the lines are played against a job with n variables and weights of a kind
 abbrev pub OpenedWith : {W : Type 0} → Kind W → WeightForm → ℕ → List TextLine → List ℕ → Type 0
-OpenedWith K form n lines output = Session K form (finder n) (fresh_maker SOFT_PLACES) lines output
+OpenedWith K form n lines output = Session form (opened_on K (finder n) (fresh_maker SOFT_PLACES)) lines output
 
 -- by the form in which the weights are written
 abbrev pub Opened : ℕ → WeightForm → List TextLine → List ℕ → Type 0

@@ -1,5 +1,5 @@
 -- What is printed: the state of a job, and the fault of a line.
-use Rattle.std.specs.Prelude.{ℕ, List, [], ◌∷◌, ◌++◌, Some, None, Option, codes, decimal}
+use Rattle.std.specs.Prelude.{◌≡◌, ℕ, List, [], ◌∷◌, ◌++◌, Some, None, Option, option_map, String, string_bytes, codes, decimal}
 use Rattle.std.specs.List.{join_with_byte, flat_map}
 use Rattle.bracket.specs.States.{State, Plan, status}
 use Rattle.bracket.specs.Statuses.{name_of}
@@ -15,6 +15,13 @@ ended line = line ++ 10 ∷ []
 
 abbrev pub printed : LineFault → List ℕ
 printed fault = ended (fault_text fault)
+
+-- the text comes to the end of what was printed
+abbrev pub Adds : {Z : Type 0} → List ℕ → String Z → String Z → Type 0
+Adds text old new = string_bytes new ≡ string_bytes old ++ text
+
+abbrev pub kept_values : {W : Type 0} {K : Kind W} → State K → Option (List ℕ)
+kept_values s = option_map (λ p. p.values) s.kept
 
 module _ {W : Type 0} (K : Kind W) (form : WeightForm) where
   -- a dash stands for what is absent

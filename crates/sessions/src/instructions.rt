@@ -1,7 +1,6 @@
 //! What a line of a session tells to do.
 ghost use Rattle.std.specs.Prelude.{◌≡◌};
-ghost use Rattle.sessions.specs.Instructions.{Later, clause, told_by, ReadAs, WeightRead, Instructs};
-ghost use Rattle.texts.specs.Lines.{line_said};
+ghost use Rattle.sessions.specs.Instructions.{Later, clause, told_by, Instructs, ReadAs, WeightRead};
 ghost use Rattle.texts.specs.Pieces.{left, as_numbered};
 
 use crate::faults::SessionFault;
@@ -23,7 +22,7 @@ pub(crate) fn read_instruction<W: WrittenWeight>(
     line: Piece<'_>,
 ) -> Result<Instruction<W>, SessionFault>
     requires later { Later (as_numbered line) }
-    ensures { ReadAs told_by (Instructs W.kind W.form line.entry.number (line_said (as_numbered line.entry))) result }
+    ensures { ReadAs told_by (Instructs W.kind W.form (as_numbered line.entry)) result }
 {
     let number = line.number;
     match read_line(line)? {

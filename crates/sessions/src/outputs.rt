@@ -13,6 +13,7 @@ use crate::session::play_lines;
 use clause_tables::ClauseRecord;
 use finder_search::Search;
 use finder_shrinking::Shrinking;
+use jobs::Job;
 use maker_branch::BranchAndBoundMaker;
 use makers::CoverMaker;
 use std::alloc::{AllocError, Global};
@@ -24,7 +25,7 @@ use weights::{Levels, Plain};
 /// What a session text prints: its lines are played against one job, on the search under the shrinking layer and on the
 /// branch-and-bound maker. The only error is want of memory.
 pub fn play(alloc: Global, text: &[u8]) -> Result<String, AllocError>
-    ensures { IfOk result (λ output. Prints text.now (string_bytes output)) }
+    ensures { IfOk result (λ out. Prints text.now (string_bytes out)) }
 {
     match play_text(alloc, text) {
         Ok(output) => Ok(output),
@@ -35,7 +36,7 @@ pub fn play(alloc: Global, text: &[u8]) -> Result<String, AllocError>
 
 /// What the text prints, or the fault that is all it prints.
 fn play_text(alloc: Global, text: &[u8]) -> Result<String, SessionFault>
-    ensures { MatchResult result (λ output. Prints text.now (string_bytes output)) (PrintsFault text.now) }
+    ensures { MatchResult result (λ out. Prints text.now (string_bytes out)) (PrintsFault text.now) }
 {
     if is_too_long(text) {
         return Err(LineFault::whole(0, Refusal::TextTooLong).into());
@@ -78,7 +79,7 @@ fn play_job(
 ) -> Result<String, AllocError>
     requires few { n ≤ MOST_VARIABLES }
     requires later { All Later (left lines) }
-    ensures { IfOk result (λ output. Opened n form (left lines.entry) (string_bytes output)) }
+    ensures { IfOk result (λ out. Opened n form (left lines.entry) (string_bytes out)) }
 {
     match form {
         WeightForm::Plain => {
@@ -104,12 +105,12 @@ where
     requires few { n ≤ MOST_VARIABLES }
     requires fresh { C.CoverMaker.meaning maker ≡ fresh SOFT_PLACES }
     requires later { All Later (left lines) }
-    ensures { IfOk result (λ output. OpenedWith C.Weight.kind C.Weight.form n (left lines.entry) (string_bytes output)) }
+    ensures { IfOk result (λ out. OpenedWith C.Weight.kind C.Weight.form n (left lines.entry) (string_bytes out)) }
 {
     let mut records = vec![in alloc; ClauseRecord::blank(); SESSION_CLAUSES]?;
     let mut literals = vec![in alloc; 0; SESSION_LITERALS]?;
     let finder = make_finder(&mut records, &mut literals, n);
-    play_lines(alloc, finder, maker, lines)
+    play_lines(alloc, Job::open(finder, maker), lines)
 }
 
 /// The search under the shrinking layer, on these tables.

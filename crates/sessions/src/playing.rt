@@ -1,8 +1,7 @@
 //! Plays a line: makes the calls that it tells the job to make, and prints the state where it asks for it.
-ghost use Rattle.std.specs.Prelude.{string_bytes, Ok};
 ghost use Rattle.jobs.specs.Jobs.{state};
-ghost use Rattle.sessions.specs.Instructions.{Later, told_by};
-ghost use Rattle.sessions.specs.Playing.{Answered, Performed, LinePlayed};
+ghost use Rattle.sessions.specs.Instructions.{Later};
+ghost use Rattle.sessions.specs.Playing.{Follows, Plays};
 ghost use Rattle.texts.specs.Pieces.{as_numbered};
 
 use crate::calls::{add_hard, add_soft, play_rounds};
@@ -20,34 +19,34 @@ pub(crate) fn play_line<F: Finder, C: CoverMaker>(
     alloc: Global,
     job: &mut Job<F, C>,
     line: Piece<'_>,
-    output: &mut String,
+    out: &mut String,
 ) -> Result<(), SessionFault>
 where
     C::Weight: WrittenWeight,
     requires later { Later (as_numbered line) }
-    ensures { Answered (LinePlayed C.Weight.form (as_numbered line.entry) (state job.old) (state job.new)) (string_bytes output.old) (string_bytes output.new) result }
+    ensures { Plays C.Weight.form line.entry (state job.old) (state job.new) out.old out.new result }
 {
     let instruction = read_instruction(alloc, line)?;
-    perform(alloc, job, line.number, instruction, output)
+    follow(alloc, job, line.number, instruction, out)
 }
 
-/// Makes the calls of an instruction, or prints the state.
-fn perform<F: Finder, C: CoverMaker>(
+/// Follows an instruction: makes its calls, or prints the state.
+fn follow<F: Finder, C: CoverMaker>(
     alloc: Global,
     job: &mut Job<F, C>,
     line: usize,
     instruction: Instruction<C::Weight>,
-    output: &mut String,
+    out: &mut String,
 ) -> Result<(), SessionFault>
 where
     C::Weight: WrittenWeight,
-    ensures { Answered (Performed C.Weight.form line (Ok (told_by instruction)) (state job.old) (state job.new)) (string_bytes output.old) (string_bytes output.new) result }
+    ensures { Follows C.Weight.form line instruction (state job.old) (state job.new) out.old out.new result }
 {
     match instruction {
         Instruction::Hard { clause } => add_hard(job, line, &clause)?,
         Instruction::Soft { weight, clause } => add_soft(job, line, weight, &clause)?,
         Instruction::Rounds { count } => play_rounds(job, line, count)?,
-        Instruction::Query => show(alloc, job, output)?,
+        Instruction::Query => show(alloc, job, out)?,
     }
     Ok(())
 }

@@ -1,7 +1,7 @@
 //! Prints the state of a job.
-ghost use Rattle.std.specs.Prelude.{◌≡◌, ◌++◌, IfOk, option_map, string_bytes, flat_map, decimal};
+ghost use Rattle.std.specs.Prelude.{◌≡◌, IfOk, option_map, flat_map, decimal};
 ghost use Rattle.jobs.specs.Jobs.{state};
-ghost use Rattle.sessions.specs.Printing.{state_text, plan_text, ceiling_text};
+ghost use Rattle.sessions.specs.Printing.{Adds, state_text, kept_values, plan_text, ceiling_text};
 
 use finders::Finder;
 use jobs::Job;
@@ -17,7 +17,7 @@ pub(crate) fn show<F: Finder, C: CoverMaker>(
 ) -> Result<(), AllocError>
 where
     C::Weight: WrittenWeight,
-    ensures { IfOk result (λ _. string_bytes output.new ≡ string_bytes output.old ++ state_text C.Weight.kind C.Weight.form (state job.now)) }
+    ensures { IfOk result (λ _. Adds (state_text C.Weight.kind C.Weight.form (state job.now)) output.old output.new) }
 {
     let bracket = job.bracket();
     let status = job.status();
@@ -38,7 +38,7 @@ fn kept_values<F: Finder, C: CoverMaker>(
     alloc: Global,
     job: &Job<F, C>,
 ) -> Result<Option<Vec<u8>>, AllocError>
-    ensures { IfOk result (λ kept. option_map (λ v. v.items) kept ≡ option_map (λ p. p.values) (state job.now).kept) }
+    ensures { IfOk result (λ kept. option_map (λ v. v.items) kept ≡ kept_values (state job.now)) }
 {
     let mut values = vec![in alloc; 0; job.variable_count()]?;
     match job.copy_kept(&mut values) {
@@ -49,7 +49,7 @@ fn kept_values<F: Finder, C: CoverMaker>(
 
 /// Prints each value.
 fn put_values(output: &mut String, values: &[u8]) -> Result<(), AllocError>
-    ensures { IfOk result (λ _. string_bytes output.new ≡ string_bytes output.old ++ flat_map decimal values.now) }
+    ensures { IfOk result (λ _. Adds (flat_map decimal values.now) output.old output.new) }
 {
     for value in values {
         write!(output, "{value}")?;

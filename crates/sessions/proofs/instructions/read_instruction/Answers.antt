@@ -1,5 +1,5 @@
 use Rattle.std.proofs.Common.{rules, ◌≡◌, Ok, Err, sym, subst}
-use Rattle.sessions.specs.Instructions.{told_by, Instructs, ReadAs}
+use Rattle.sessions.specs.Instructions.{told_by, Tells, ReadAs}
 use Rattle.sessions.proofs.HandedUp.{passed_on}
 use Rattle.sessions.proofs.Instructing.{soft_read}
 use Rattle.sessions.proofs.instructions.read_instruction.Goals as goal
@@ -11,7 +11,7 @@ returns-in_err-clause-in-Soft g c =
     let said = soft_read g.W.WeightKind.kind g.W.WrittenWeight.form c.args.line.number (as_numbered c.in-Soft.weight) (left c.in-Soft.literals)
         (line_said (as_numbered c.args.line)) (search rules) c.in_ok-weight-in-Soft.weight c.in_ok-weight-in-Soft.ensures in
     let is : c.from_residual-in_err-clause-in-Soft.result ≡ Err c.in_err-clause-in-Soft.field-0.0 = search rules in
-    subst (λ r. ReadAs told_by (Instructs g.W.WeightKind.kind g.W.WrittenWeight.form c.args.line.number (line_said (as_numbered c.args.line))) r) (sym is)
+    subst (λ r. ReadAs told_by (Tells g.W.WeightKind.kind g.W.WrittenWeight.form c.args.line.number (line_said (as_numbered c.args.line))) r) (sym is)
     (passed_on _ _ (λ fault e. said (Err fault) e) c.in_err-clause-in-Soft.field-0.0 c.in_err-clause-in-Soft.ensures)
 
 pub returns-in_ok-clause-in-Soft : goal.returns-in_ok-clause-in-Soft

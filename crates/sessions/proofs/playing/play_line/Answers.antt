@@ -1,4 +1,4 @@
-use Rattle.std.proofs.Common.{rules, ◌≡◌, Err, refl, sym, subst, string_bytes}
+use Rattle.std.proofs.Common.{rules, ◌≡◌, Err, append-nil, sym, subst, string_bytes}
 use Rattle.jobs.specs.Jobs.{state}
 use Rattle.sessions.specs.Playing.{Answered, LinePlayed}
 use Rattle.sessions.proofs.HandedUp.{passed_on}
@@ -12,6 +12,6 @@ returns-in_err-instruction g c =
     let form = g.C.Weight.WrittenWeight.form in
     let l = as_numbered c.args.line in
     let s = state c.args.job.now in
-    let old = string_bytes c.args.output.now in
+    let old = c.args.out.now in
     subst (λ r. Answered (LinePlayed form l s s) old old r) (sym is)
-    (passed_on _ _ (λ fault told. (unread form l s fault told, refl)) c.in_err-instruction.field-0.0 c.in_err-instruction.ensures)
+    (passed_on _ _ (λ fault told. (unread form l s fault told, sym (append-nil (string_bytes old)))) c.in_err-instruction.field-0.0 c.in_err-instruction.ensures)

@@ -6,5 +6,4 @@ use Rattle.texts.specs.Pieces.{left}
 
 abbrev pub invariant-loop-line : goal.invariant-loop-line
 invariant-loop-line g l =
-    SoFar g.C.Weight.WeightKind.kind g.C.Weight.WrittenWeight.form (g.F.Finder.meaning l.fn.finder) (g.C.CoverMaker.meaning l.fn.maker) (left l.fn.lines)
-    (left l.line-iterator) (state l.job) (string_bytes l.output)
+    SoFar g.C.Weight.WrittenWeight.form (state l.fn.job) (left l.fn.lines) (left l.line-iterator) (state l.job) (string_bytes l.output)
