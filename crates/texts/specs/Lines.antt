@@ -1,5 +1,5 @@
 -- What a line of a session says, or what is wrong with it.
-use Rattle.std.specs.Prelude.{ℕ, Bool, true, false, if◌then◌else◌, List, [], ◌∷◌, Some, None, Option, Ok, Err, Result, ◌==◌}
+use Rattle.std.specs.Prelude.{ℕ, Bool, true, false, if◌then◌else◌, List, [], ◌∷◌, Some, None, Option, Ok, Err, Result, ok_or, ◌==◌}
 use Rattle.terms.specs.declared.limits.TheConstants.{MOST_ROUNDS}
 use Rattle.terms.specs.declared.refusals.Refusal.{Refusal}
 use Rattle.terms.specs.declared.refusals.Refusal.TheVariants.{WrongLetter, WrongFieldCount}
@@ -7,6 +7,7 @@ use Rattle.texts.specs.Cuts.{fields, numbered}
 use Rattle.texts.specs.Faults.{field_fault, whole_line, malformed}
 use Rattle.texts.specs.Pieces.{left, as_numbered}
 use Rattle.texts.specs.Numbers.{number}
+use Rattle.texts.specs.declared.faults.FieldFault.{FieldFault}
 use Rattle.texts.specs.declared.faults.LineFault.{LineFault}
 use Rattle.texts.specs.declared.lines.Letter.{Letter}
 use Rattle.texts.specs.declared.lines.Letter.TheVariants.{Job, Hard, Soft, Rounds, Query}
@@ -66,6 +67,10 @@ form field = None
 -- ---- the fields after the letter
 abbrev pub refused_whole : ℕ → Refusal → Result Said LineFault
 refused_whole line refusal = Err (whole_line line refusal)
+
+-- what a field says, or its fault
+abbrev pub field_said : {A : Type 0} → ℕ → Field → Option A → Result A FieldFault
+field_said line field said = ok_or said (field_fault line field)
 
 -- a field that is not written as asked
 abbrev pub malformed_field : ℕ → Field → LineFault

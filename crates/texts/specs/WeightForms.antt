@@ -42,7 +42,13 @@ abbrev pub WeightRead : WeightForm → List ℕ → Option Three → Type 0
 WeightRead form field None = (t : Three) → Writable form t → field ≡ weight_text form t → ⊥
 WeightRead form field (Some t) = Writable form t × (field ≡ weight_text form t)
 
--- the weight that a field says, or none if it says no weight that the kind can hold
-abbrev pub WeightSaid : {W : Type 0} → Kind W → WeightForm → List ℕ → Option W → Type 0
-WeightSaid K form field None = (v : K.V) → K.holds v ≡ true → weight_numbers form field ≡ Some (K.numbers v) → ⊥
-WeightSaid K form field (Some w) = weight_numbers form field ≡ Some (K.numbers (K.value w))
+-- ---- the weights of a kind
+module _ {W : Type 0} (K : Kind W) (form : WeightForm) where
+  -- the weight that a field says, or none if it says no weight that the kind can hold
+  abbrev pub WeightSaid : List ℕ → Option W → Type 0
+  WeightSaid field None = (v : K.V) → K.holds v ≡ true → weight_numbers form field ≡ Some (K.numbers v) → ⊥
+  WeightSaid field (Some w) = weight_numbers form field ≡ Some (K.numbers (K.value w))
+
+  -- the kind displays its weights in the form
+  abbrev pub DisplaysIn : (W → Option (List ℕ)) → Type 0
+  DisplaysIn output = (w : W) → output w ≡ Some (weight_text form (K.numbers (K.value w)))

@@ -15,7 +15,7 @@ pub struct FieldFault {
     pub field: usize,
 }
 
-/// A line that is refused: at one of its fields, or as a whole, where the field is 0. Line 0 is the whole text.
+/// A line that is refused, at one of its fields or as a whole: field 0. Line 0 is the whole text.
 #[derive(Clone, Copy, PartialEq, Eq, Debug)]
 pub struct LineFault {
     pub line: usize,

@@ -1,9 +1,9 @@
 //! Reads a line of a session.
-ghost use Rattle.std.specs.Prelude.{◌≡◌, true, false, ◌==◌, IfOk, ok_or};
-ghost use Rattle.texts.specs.Faults.{field_fault};
+ghost use Rattle.std.specs.Prelude.{◌≡◌, true, false, ◌==◌, IfOk};
 ghost use Rattle.texts.specs.Pieces.{left, as_numbered};
 ghost use Rattle.texts.specs.Numbers.{number};
-ghost use Rattle.texts.specs.Lines.{letter, form, line_said, job_said, soft_said, rounds_said, query_said, said_in, opens_job};
+ghost use Rattle.texts.specs.Lines.{letter, form, field_said, line_said, job_said, soft_said, rounds_said, query_said};
+ghost use Rattle.texts.specs.Lines.{said_in, opens_job};
 
 use crate::faults::{FieldFault, LineFault};
 use crate::numbers::{FIVE_DIGITS, read_number};
@@ -129,14 +129,14 @@ fn read_query<'a>(line: usize, mut fields: Pieces<'a>) -> Result<Line<'a>, LineF
 
 /// A number up to `most`.
 fn read_count(line: usize, field: Piece<'_>, most: u64) -> Result<u64, FieldFault>
-    ensures { result ≡ ok_or (number most field.entry.bytes.now) (field_fault line (as_numbered field.entry)) }
+    ensures { result ≡ field_said line (as_numbered field.entry) (number most field.entry.bytes.now) }
 {
     read_number(field.bytes, most).ok_or(FieldFault::at(line, field))
 }
 
 /// The letter of a form of weights.
 fn read_form(line: usize, field: Piece<'_>) -> Result<WeightForm, FieldFault>
-    ensures { result ≡ ok_or (form field.entry.bytes.now) (field_fault line (as_numbered field.entry)) }
+    ensures { result ≡ field_said line (as_numbered field.entry) (form field.entry.bytes.now) }
 {
     match field.bytes {
         b"p" => Ok(WeightForm::Plain),

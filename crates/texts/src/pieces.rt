@@ -1,5 +1,6 @@
 //! Cuts a text into lines, and a line into fields.
 ghost use Rattle.std.specs.Prelude.{◌≡◌, ◌+◌, ◌<◌, ◌≤◌, ◌∷◌, ◌^◌, option_map, IfSome, length, position, ◌==◌};
+ghost use Rattle.std.specs.Option.{option_copied};
 ghost use Rattle.std.specs.Iterator.{YieldsFirstBy, item_count};
 ghost use Rattle.texts.specs.Cuts.{lines, fields, numbered, without_end, most_pieces, cut, pieces, pieces_in};
 
@@ -17,7 +18,7 @@ pub struct Pieces<'a> {
     by: u8,
     number: usize,
     // No piece has a number too large for the type.
-    ghost few: { number + most_pieces (option_map (λ bs. bs.now) rest) < 2 ^ 64 },
+    ghost few: { number + most_pieces (option_copied rest) < 2 ^ 64 },
 }
 
 impl<'a> Pieces<'a> {
@@ -39,7 +40,7 @@ impl<'a> Pieces<'a> {
 
     /// The pieces of some bytes, numbered from 1.
     fn all(bytes: Option<&'a [u8]>, by: u8) -> Self
-        ensures { left result ≡ numbered 1 (pieces_in by (option_map (λ bs. bs.now) bytes.entry)) }
+        ensures { left result ≡ numbered 1 (pieces_in by (option_copied bytes.entry)) }
     {
         Pieces {
             rest: bytes,
@@ -71,8 +72,8 @@ impl<'a> Iterator for Pieces<'a> {
 /// The first piece of some bytes, and the bytes of the others if there are any.
 #[tactic(auto, using(crate::proofs::Cutting::cut_off, crate::proofs::Cutting::uncut))]
 fn first_piece(bytes: &[u8], by: u8) -> (&[u8], Option<&[u8]>)
-    ensures pieces { pieces by bytes.now ≡ result.0.now ∷ pieces_in by (option_map (λ bs. bs.now) result.1) }
-    ensures fewer { most_pieces (option_map (λ bs. bs.now) result.1) ≤ length bytes.now }
+    ensures pieces { pieces by bytes.now ≡ result.0.now ∷ pieces_in by (option_copied result.1) }
+    ensures fewer { most_pieces (option_copied result.1) ≤ length bytes.now }
 {
     match cut_at(bytes, by) {
         Some((piece, after)) => (piece, Some(after)),
@@ -100,7 +101,7 @@ fn place_of(by: u8, bytes: &[u8]) -> Option<usize>
 /// A text without the end of its last line, and none where there is no line.
 #[tactic(auto, using(crate::proofs::Ends::ended, crate::proofs::Ends::not_ended))]
 fn without_end(text: &[u8]) -> Option<&[u8]>
-    ensures { option_map (λ bs. bs.now) result ≡ without_end text.now }
+    ensures { option_copied result ≡ without_end text.now }
 {
     match text.split_last() {
         None => None,

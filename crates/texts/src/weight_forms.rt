@@ -1,7 +1,7 @@
 //! How the weights of each kind are written in a text.
-ghost use Rattle.std.specs.Prelude.{◌≡◌, Some};
+ghost use Rattle.std.specs.Prelude.{◌≡◌};
 ghost use Rattle.texts.specs.Cuts.{pieces};
-ghost use Rattle.texts.specs.WeightForms.{weight_numbers, WeightRead, WeightSaid, amount, three_of, weight_text};
+ghost use Rattle.texts.specs.WeightForms.{weight_numbers, WeightRead, WeightSaid, DisplaysIn, amount, three_of};
 ghost use Rattle.std.proofs.Common.{rules};
 
 use crate::numbers::read_number;
@@ -35,7 +35,7 @@ pub trait WrittenWeight: WeightKind + fmt::Display {
         Self::from_numbers(Self::form().read(field)?)
     }
 
-    ghost displayed: { (w : Self) → Self.output w ≡ Some (weight_text form (Self.kind.numbers (Self.kind.value w))) };
+    ghost displayed: { DisplaysIn Self.kind form Self.output };
 }
 
 impl WrittenWeight for Plain {
@@ -63,7 +63,7 @@ impl WrittenWeight for Levels {
 }
 
 impl WeightForm {
-    /// The three numbers of a weight that is written in this form; a plain weight has the first one, and then zeros.
+    /// The three numbers of a weight; a plain weight has the first one, and then zeros.
     #[tactic(auto, using(crate::proofs::WeightTexts::weight_laws))]
     pub fn read(self, field: &[u8]) -> Option<(u64, u64, u64)>
         ensures value { result ≡ weight_numbers self field.now }
