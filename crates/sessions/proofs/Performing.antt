@@ -19,7 +19,7 @@ module _ {W : Type 0} {K : Kind W} (form : WeightForm) (number : ℕ) (s : State
   call_made c is t result (r, step, keeps, e) = (
     line c r t ∷ [],
     subst (λ i. Played form number s (Ok i) (line c r t ∷ []) t (result_text result)) (sym is)
-    (subst (λ text. Played form number s (Ok (calls c)) (line c r t ∷ []) t text) (ap result_text (sym e)) (called step)),
+        (subst (λ text. Played form number s (Ok (calls c)) (line c r t ∷ []) t text) (ap result_text (sym e)) (called step)),
     goes_on [] (stays s) keeps,
   )
 
@@ -28,7 +28,7 @@ module _ {W : Type 0} {K : Kind W} (form : WeightForm) (number : ℕ) (s : State
   rounds_made count is t result (log, r, rs, continues, e) = (
     log,
     subst (λ i. Played form number s (Ok i) log t (result_text result)) (sym is)
-    (subst (λ text. Played form number s (Ok (rounds count)) log t text) (ap result_text (sym e)) (played rs)),
+        (subst (λ text. Played form number s (Ok (rounds count)) log t text) (ap result_text (sym e)) (played rs)),
     continues,
   )
 

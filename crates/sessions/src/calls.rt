@@ -6,9 +6,9 @@ ghost use Rattle.bracket.specs.Steps.{hard as hard_call, soft as soft_call, roun
 ghost use Rattle.jobs.specs.Jobs.{state};
 ghost use Rattle.sessions.specs.Calls.{clause_field, Called, PlayedRounds};
 
-use makers::CoverMaker;
 use finders::Finder;
 use jobs::{Job, Status};
+use makers::CoverMaker;
 use terms::{Refusal, first_bad_literal};
 use texts::LineFault;
 

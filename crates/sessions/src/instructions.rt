@@ -42,11 +42,7 @@ pub(crate) fn read_instruction<W: WrittenWeight>(
 }
 
 /// The literals in these fields of a line.
-fn read_clause(
-    alloc: Global,
-    line: usize,
-    fields: Pieces<'_>,
-) -> Result<Vec<i32>, SessionFault>
+fn read_clause(alloc: Global, line: usize, fields: Pieces<'_>) -> Result<Vec<i32>, SessionFault>
     ensures { ReadAs (λ v. v.items) (λ c. clause line (left fields.entry) ≡ c) result }
 {
     let mut clause = Vec::new(alloc);

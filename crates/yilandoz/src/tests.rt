@@ -1,9 +1,8 @@
-//! The edges of what a session takes, with output worked out by hand.
+//! Where the program meets its reader, its writer and its memory, with output worked out by hand.
 ghost use Rattle.std.specs.Prelude.{◌≤◌, IfOk};
 
 use super::play_all;
 use std::io::{self, ErrorKind, Read, Write};
-use std::process::Abort;
 use std::test::Fail;
 
 /// What a text prints.
@@ -13,116 +12,23 @@ fn printed(rt: &impl AllocGlobal, text: &[u8]) -> Result<String, Fail> {
     String::from_utf8(output).map_err(|_| Fail::from("other bytes than text"))
 }
 
-/// Whether each text prints what stands beside it.
-fn print_so(rt: &(impl AllocGlobal + Abort), table: &[(&str, &str)]) -> Result<(), Fail> {
-    for (text, output) in table {
-        let got = printed(rt, text.as_bytes())?;
-        assert!(rt; got.as_str() == *output, "{text}");
-    }
-    Ok(())
-}
-
 #[test]
 fn texts_with_few_lines_or_none(rt: HostRuntime) -> Result<(), Fail> {
-    print_so(
-        &rt,
-        &[
-            ("", ""),
-            ("\n", "x\t1\t0\tt\t2\n"),
-            ("j\t0\tp", ""),
-            ("j\t0\tp\n", ""),
-            ("j\t0\tp\nq", "q\tunasked\t0\t-\t-\n"),
-            ("j\t0\tl\nq\n", "q\tunasked\t0,0,0\t-\t-\n"),
-            ("j\t0\tp\nr\t9\nq\n", "q\tbest\t0\t0\t\n"),
-            ("j\t0\tp\n\nq\n", "x\t2\t0\tt\t2\nq\tunasked\t0\t-\t-\n"),
-            ("j\t0\tp\r\nq\n", "x\t1\t3\tt\t4\n"),
-        ],
-    )
-}
-
-#[test]
-fn a_line_names_its_first_fault(rt: HostRuntime) -> Result<(), Fail> {
-    print_so(
-        &rt,
-        &[
-            // The first line.
-            ("q\nq\n", "x\t1\t0\tt\t2\n"),
-            ("j\n", "x\t1\t0\tt\t3\n"),
-            ("j\t2\tp\t\nq\n", "x\t1\t0\tt\t3\n"),
-            ("j\t02\tx\n", "x\t1\t2\tt\t4\n"),
-            ("j\t100000\tp\n", "x\t1\t2\tt\t4\n"),
-            ("j\t2\tx\n", "x\t1\t3\tt\t4\n"),
-            ("j\t99999\tp\nq\n", "x\t1\t2\tf\t5\n"),
-            ("j\t257\tl\nq\n", "x\t1\t2\tf\t5\n"),
-            // Letters, counts of fields, and fields of later lines.
-            ("j\t2\tp\nj\n", "x\t2\t0\tt\t2\n"),
-            ("j\t2\tp\nhh\t1\n", "x\t2\t0\tt\t2\n"),
-            ("j\t2\tp\nH\t1\n", "x\t2\t0\tt\t2\n"),
-            ("j\t2\tp\nh 1\n", "x\t2\t0\tt\t2\n"),
-            ("j\t2\tp\ns\n", "x\t2\t0\tt\t3\n"),
-            ("j\t2\tp\nr\t1\t1\n", "x\t2\t0\tt\t3\n"),
-            ("j\t2\tp\nq\t\n", "x\t2\t0\tt\t3\n"),
-            ("j\t2\tp\nr\t65536\n", "x\t2\t2\tt\t4\n"),
-            ("j\t2\tp\nr\t-1\n", "x\t2\t2\tt\t4\n"),
-            ("j\t2\tp\nh\t1\t\n", "x\t2\t3\tt\t4\n"),
-            ("j\t2\tp\nh\t9\t-0\n", "x\t2\t3\tt\t4\n"),
-            ("j\t2\tp\nh\t00\t9\n", "x\t2\t2\tt\t4\n"),
-            ("j\t2\tp\nh\t1\t100000\n", "x\t2\t3\tt\t4\n"),
-            ("j\t2\tp\ns\t\t1\n", "x\t2\t2\tt\t4\n"),
-            ("j\t2\tp\ns\t1,0,0\tx\n", "x\t2\t2\tt\t4\n"),
-            ("j\t2\tp\ns\t1\t1\tx\n", "x\t2\t4\tt\t4\n"),
-            ("j\t2\tl\ns\t1\t1\n", "x\t2\t2\tt\t4\n"),
-        ],
-    )
-}
-
-#[test]
-fn a_refused_clause_names_its_field(rt: HostRuntime) -> Result<(), Fail> {
-    print_so(
-        &rt,
-        &[
-            ("j\t2\tp\nh\t1\t99999\t0\n", "x\t2\t3\tf\t9\n"),
-            ("j\t2\tp\nh\t-2\t0\n", "x\t2\t3\tf\t9\n"),
-            ("j\t2\tp\ns\t0\t1\t-3\n", "x\t2\t4\tf\t9\n"),
-            ("j\t2\tp\ns\t0\t1\n", "x\t2\t2\tc\t10\n"),
-            ("j\t2\tl\ns\t0,0,0\n", "x\t2\t2\tc\t10\n"),
-            ("j\t0\tp\nh\t1\n", "x\t2\t2\tf\t9\n"),
-        ],
-    )
-}
-
-#[test]
-fn bytes_that_are_no_ascii(rt: HostRuntime) -> Result<(), Fail> {
-    let text = b"j\t1\tp\n\xff\nh\t\xc2\xb9\nh\t1\xff\n\0\nq\n";
-    let output = printed(&rt, text)?;
-    assert!(rt;
-        output.as_str()
-            == "x\t2\t0\tt\t2\nx\t3\t2\tt\t4\nx\t4\t2\tt\t4\nx\t5\t0\tt\t2\nq\tunasked\t0\t-\t-\n"
-    );
+    for (text, output) in [
+        ("", ""),
+        ("\n", "x\t1\t0\tt\t2\n"),
+        ("j\t0\tp", ""),
+        ("j\t0\tp\n", ""),
+        ("j\t0\tp\nq", "q\tunasked\t0\t-\t-\n"),
+        ("j\t0\tl\nq\n", "q\tunasked\t0,0,0\t-\t-\n"),
+        ("j\t0\tp\nr\t9\nq\n", "q\tbest\t0\t0\t\n"),
+        ("j\t0\tp\n\nq\n", "x\t2\t0\tt\t2\nq\tunasked\t0\t-\t-\n"),
+        ("j\t0\tp\r\nq\n", "x\t1\t3\tt\t4\n"),
+    ] {
+        let got = printed(&rt, text.as_bytes())?;
+        assert!(rt; got.as_str() == output, "{text}");
+    }
     Ok(())
-}
-
-#[test]
-fn totals_at_the_limit_of_both_kinds(rt: HostRuntime) -> Result<(), Fail> {
-    print_so(
-        &rt,
-        &[
-            (
-                "j\t1\tp\ns\t4294967295\t1\ns\t1\t1\nh\t-1\nr\t9\nq\n",
-                "q\tbest\t4294967296\t4294967296\t0\n",
-            ),
-            (
-                "j\t1\tp\ns\t18446744073709551614\t1\ns\t1\t1\ns\t1\t1\nh\t-1\nr\t9\nq\n",
-                "x\t4\t2\tc\t12\nq\tbest\t18446744073709551615\t18446744073709551615\t0\n",
-            ),
-            ("j\t1\tp\ns\t18446744073709551616\t1\n", "x\t2\t2\tt\t4\n"),
-            (
-                "j\t1\tl\ns\t4294967295,0,4294967294\t1\ns\t0,0,1\t1\ns\t0,0,1\t1\ns\t1,0,0\t1\nh\t-1\nr\t9\nq\n",
-                "x\t4\t2\tc\t12\nx\t5\t2\tc\t12\nq\tbest\t4294967295,0,4294967295\t4294967295,0,4294967295\t0\n",
-            ),
-            ("j\t1\tl\ns\t0,4294967296,0\t1\n", "x\t2\t2\tt\t4\n"),
-        ],
-    )
 }
 
 /// What is printed where the line stands so many times between two others.
@@ -173,30 +79,6 @@ fn limits_of_a_clause_and_of_the_tables(rt: HostRuntime) -> Result<(), Fail> {
     write!(text, "h\t1\nh\nr\t9\nq\n")?;
     let output = printed(&rt, text.as_bytes())?;
     assert!(rt; output.as_str() == "x\t258\t0\tf\t13\nq\tvoid\t0\t-\t-\n");
-    Ok(())
-}
-
-// Of twelve options no five can be had together: there are 792 such sets, and each is a core that the floor needs.
-#[test]
-fn a_round_without_a_place_for_its_core_is_refused(rt: HostRuntime) -> Result<(), Fail> {
-    let mut text = format!(in rt.alloc(); "j\t12\tp\n")?;
-    for option in 1..=12 {
-        writeln!(text, "s\t1\t{option}")?;
-    }
-    for a in 1..=12 {
-        for b in 1..a {
-            for c in 1..b {
-                for d in 1..c {
-                    for e in 1..d {
-                        writeln!(text, "h\t-{a}\t-{b}\t-{c}\t-{d}\t-{e}")?;
-                    }
-                }
-            }
-        }
-    }
-    writeln!(text, "r\t65535\nr\t1")?;
-    let output = printed(&rt, text.as_bytes())?;
-    assert!(rt; output.as_str() == "x\t806\t0\tc\t18\nx\t807\t0\tc\t18\n");
     Ok(())
 }
 

@@ -9,7 +9,7 @@ use Rattle.texts.specs.Pieces.{left, as_numbered}
 pub returns-in_err-clause-in-Soft : goal.returns-in_err-clause-in-Soft
 returns-in_err-clause-in-Soft g c =
     let said = soft_read g.W.WeightKind.kind g.W.WrittenWeight.form c.args.line.number (as_numbered c.in-Soft.weight) (left c.in-Soft.literals)
-        (line_said (as_numbered c.args.line)) (search rules) c.in_ok-weight-in-Soft.weight c.in_ok-weight-in-Soft.ensures in
+    (line_said (as_numbered c.args.line)) (search rules) c.in_ok-weight-in-Soft.weight c.in_ok-weight-in-Soft.ensures in
     let is : c.from_residual-in_err-clause-in-Soft.result ≡ Err c.in_err-clause-in-Soft.field-0.0 = search rules in
     subst (λ r. ReadAs told_by (Tells g.W.WeightKind.kind g.W.WrittenWeight.form c.args.line.number (line_said (as_numbered c.args.line))) r) (sym is)
     (passed_on _ _ (λ fault e. said (Err fault) e) c.in_err-clause-in-Soft.field-0.0 c.in_err-clause-in-Soft.ensures)
