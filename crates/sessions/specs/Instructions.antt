@@ -68,9 +68,9 @@ module _ {W : Type 0} (K : Kind W) (form : WeightForm) where
   Instructs l i = Tells l.0 (line_said l) i
 
   -- ---- reading
-  abbrev pub WeightRead : ℕ → Field → Result W FieldFault → Type 0
-  WeightRead line field (Ok w) = WeightSaid K form field.1 (Some w)
-  WeightRead line field (Err fault) = WeightSaid K form field.1 None × (fault ≡ field_fault line field)
+  abbrev pub WeightOrFault : ℕ → Field → Result W FieldFault → Type 0
+  WeightOrFault line field (Ok w) = WeightSaid K form field.1 (Some w)
+  WeightOrFault line field (Err fault) = WeightSaid K form field.1 None × (fault ≡ field_fault line field)
 
 -- what was read is so, or the fault to which the reading came, unless memory ran out
 abbrev pub ReadAs : {A T : Type 0} → (T → A) → (Result A LineFault → Type 0) → Result T SessionFault → Type 0

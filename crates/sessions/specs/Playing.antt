@@ -41,8 +41,10 @@ Answered Prints old new (Ok u) = (text : List ℕ) × Prints text × Adds text o
 Answered Prints old new (Err f) = UnlessMemory (λ fault. Prints (printed fault) × Adds [] old new) f
 
 module _ {W : Type 0} {K : Kind W} (form : WeightForm) where
+  -- the instruction of a line was followed
   abbrev pub Follows : {Z : Type 0} → ℕ → Instruction W → State K → State K → String Z → String Z → Result (Unit {0}) SessionFault → Type 0
   Follows number i s t old new result = Answered (Performed form number (Ok (told_by i)) s t) old new result
 
+  -- a line was read, and its instruction followed
   abbrev pub Plays : {Z : Type 0} → Piece → State K → State K → String Z → String Z → Result (Unit {0}) SessionFault → Type 0
   Plays l s t old new result = Answered (LinePlayed form (as_numbered l) s t) old new result

@@ -6,7 +6,7 @@ ghost use Rattle.texts.specs.Faults.{malformed};
 use std::alloc::{AllocError, AllocFailed};
 use texts::{FieldFault, LineFault};
 
-/// A fault of the line, which is printed, or want of memory, which ends the program.
+/// A fault of the line, which is printed, or `AllocError`, which ends the program.
 #[derive(Clone, Copy, PartialEq, Eq, Debug)]
 pub(crate) enum SessionFault {
     Line(LineFault),

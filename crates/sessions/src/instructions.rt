@@ -1,6 +1,6 @@
 //! What a line of a session tells to do.
 ghost use Rattle.std.specs.Prelude.{◌≡◌};
-ghost use Rattle.sessions.specs.Instructions.{Later, clause, told_by, Instructs, ReadAs, WeightRead};
+ghost use Rattle.sessions.specs.Instructions.{Later, clause, told_by, Instructs, ReadAs, WeightOrFault};
 ghost use Rattle.texts.specs.Pieces.{left, as_numbered};
 
 use crate::faults::SessionFault;
@@ -57,7 +57,7 @@ fn read_clause(alloc: Global, line: usize, fields: Pieces<'_>) -> Result<Vec<i32
 
 /// The weight in this field of a line.
 fn read_weight<W: WrittenWeight>(line: usize, field: Piece<'_>) -> Result<W, FieldFault>
-    ensures { WeightRead W.kind W.form line (as_numbered field.entry) result }
+    ensures { WeightOrFault W.kind W.form line (as_numbered field.entry) result }
 {
     W::read(field.bytes).ok_or(FieldFault::at(line, field))
 }

@@ -22,8 +22,8 @@ use terms::limits::{MOST_BYTES, MOST_VARIABLES, SESSION_CLAUSES, SESSION_LITERAL
 use texts::{Line, LineFault, Pieces, WeightForm, WrittenWeight, read_line};
 use weights::{Levels, Plain};
 
-/// What a session text prints: its lines are played against one job, on the search under the shrinking layer and on the
-/// branch-and-bound maker. The only error is want of memory.
+/// What a session text prints: its lines are played against one job, on the search under the shrinking layer
+/// and on the branch-and-bound maker.
 pub fn play(alloc: Global, text: &[u8]) -> Result<String, AllocError>
     ensures { IfOk result (λ out. Prints text.now (string_bytes out)) }
 {
