@@ -6,7 +6,7 @@ use Rattle.std.proofs.lemmas.List.Elements.{All-cons}
 use Rattle.bracket.specs.States.{State, opened_on}
 use Rattle.makers.specs.Meanings.{MakerMeaning, fresh}
 use Rattle.finders.specs.Meanings.{FinderMeaning}
-use Rattle.sessions.specs.Outputs.{finder, OpenedWith}
+use Rattle.sessions.specs.Outputs.{finder, Opens}
 use Rattle.sessions.specs.Instructions.{Later}
 use Rattle.sessions.specs.Session.{Session}
 use Rattle.terms.specs.declared.limits.TheConstants.{SOFT_PLACES}
@@ -48,7 +48,7 @@ module _ (ps : List (List ℕ)) (l : TextLine) (rest : List TextLine) (e : numbe
 -- ---- the parts of the job
 module _ {W : Type 0} {K : Kind W} (form : WeightForm) (n : ℕ) (lines : List TextLine) {T E : Type 0} (text : T → List ℕ) where
   pub opened_with : (f : FinderMeaning) → f ≡ finder n → (m : MakerMeaning W) → m ≡ fresh SOFT_PLACES → (s : State K) → s ≡ opened_on K f m
-      → (output : Result T E) → IfOk output (λ o. Session form s lines (text o)) → IfOk output (λ o. OpenedWith K form n lines (text o))
+      → (output : Result T E) → IfOk output (λ o. Session form s lines (text o)) → IfOk output (λ o. Opens K form n lines (text o))
   opened_with f p m q s e (Err x) session = tt
   opened_with f p m q s e (Ok o) session = subst (λ s. Session form s lines (text o)) (e ∙ opened) session
     where

@@ -32,8 +32,8 @@ module _ {W : Type 0} {K : Kind W} (form : WeightForm) (number : ℕ) (s : State
     continues,
   )
 
-  pub state_shown : i ≡ shows → Performed form number (Ok i) s s (state_text K form s)
-  state_shown is = ([], subst (λ i. Played form number s (Ok i) [] s (state_text K form s)) (sym is) shown, stays s)
+  pub state_shown : i ≡ shows → Performed form number (Ok i) s s (state_text form s)
+  state_shown is = ([], subst (λ i. Played form number s (Ok i) [] s (state_text form s)) (sym is) shown, stays s)
 
 module _ {W : Type 0} {K : Kind W} (form : WeightForm) (l : TextLine) (s : State K) where
   pub unread : (fault : LineFault) → Instructs K form l (Err fault) → LinePlayed form l s s (printed fault)

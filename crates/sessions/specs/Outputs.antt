@@ -26,13 +26,13 @@ abbrev pub finder : ℕ → FinderMeaning
 finder n = fresh_finder n SOFT_PLACES SESSION_CLAUSES SESSION_LITERALS
 
 -- the lines are played against a job with n variables and weights of a kind
-abbrev pub OpenedWith : {W : Type 0} → Kind W → WeightForm → ℕ → List TextLine → List ℕ → Type 0
-OpenedWith K form n lines output = Session form (opened_on K (finder n) (fresh_maker SOFT_PLACES)) lines output
+abbrev pub Opens : {W : Type 0} → Kind W → WeightForm → ℕ → List TextLine → List ℕ → Type 0
+Opens K form n lines output = Session form (opened_on K (finder n) (fresh_maker SOFT_PLACES)) lines output
 
 -- by the form in which the weights are written
 abbrev pub Opened : ℕ → WeightForm → List TextLine → List ℕ → Type 0
-Opened n Plain lines output = OpenedWith plain_kind Plain n lines output
-Opened n Levels lines output = OpenedWith levels_kind Levels n lines output
+Opened n Plain lines output = Opens plain_kind Plain n lines output
+Opened n Levels lines output = Opens levels_kind Levels n lines output
 
 -- the first line asks for a number of variables that is refused; n is its second field
 abbrev pub n_fault : Refusal → LineFault

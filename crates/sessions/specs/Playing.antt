@@ -26,7 +26,7 @@ module _ {W : Type 0} {K : Kind W} (form : WeightForm) where
         → Played number s (Ok (calls c)) (line c r t ∷ []) t (result_text (call_result number s.finder.n c r))
     played : {count : ℕ} {log : Log K} {t : State K} {r : Option Refusal} → RoundsPlayed count s log t r
         → Played number s (Ok (rounds count)) log t (result_text (call_result {W = W} number 0 round r))
-    shown : Played number s (Ok shows) [] s (state_text K form s)
+    shown : Played number s (Ok shows) [] s (state_text form s)
 
   -- a line was played by such calls, and the bracket stands on the log that they go on to
   abbrev pub Performed : ℕ → Result (Told W) LineFault → State K → State K → List ℕ → Type 0

@@ -34,8 +34,8 @@ module _ {W : Type 0} (K : Kind W) (form : WeightForm) where
   plan_text None = codes "-"
   plan_text (Some p) = flat_map decimal p.values
 
-  -- q, the status, the floor, the ceiling and the assignment, with tabs between them
-  abbrev pub state_text : State K → List ℕ
-  state_text s = ended (join_with_byte 9 (
-      codes "q" ∷ name_of (status s) ∷ weight_text form (K.numbers s.floor) ∷ ceiling_text s.kept ∷ plan_text s.kept ∷ []
-      ))
+-- q, the status, the floor, the ceiling and the assignment, with tabs between them
+abbrev pub state_text : {W : Type 0} {K : Kind W} → WeightForm → State K → List ℕ
+state_text {K = K} form s = ended (join_with_byte 9 (
+    codes "q" ∷ name_of (status s) ∷ weight_text form (K.numbers s.floor) ∷ ceiling_text K form s.kept ∷ plan_text K form s.kept ∷ []
+    ))

@@ -5,7 +5,7 @@ ghost use Rattle.finder_search.specs.Finder.{finder_meaning};
 ghost use Rattle.finders.specs.Refused.{variables_refused};
 ghost use Rattle.makers.specs.Meanings.{fresh};
 ghost use Rattle.sessions.specs.Instructions.{Later};
-ghost use Rattle.sessions.specs.Outputs.{Prints, PrintsFault, Opened, OpenedWith, n_fault, finder};
+ghost use Rattle.sessions.specs.Outputs.{Prints, PrintsFault, Opened, Opens, n_fault, finder};
 ghost use Rattle.texts.specs.Pieces.{left};
 
 use crate::faults::SessionFault;
@@ -105,7 +105,7 @@ where
     requires few { n ≤ MOST_VARIABLES }
     requires fresh { C.CoverMaker.meaning maker ≡ fresh SOFT_PLACES }
     requires later { All Later (left lines) }
-    ensures { IfOk result (λ out. OpenedWith C.Weight.kind C.Weight.form n (left lines.entry) (string_bytes out)) }
+    ensures { IfOk result (λ o. Opens C.Weight.kind C.Weight.form n (left lines.entry) (string_bytes o)) }
 {
     let mut records = vec![in alloc; ClauseRecord::blank(); SESSION_CLAUSES]?;
     let mut literals = vec![in alloc; 0; SESSION_LITERALS]?;

@@ -17,7 +17,7 @@ pub(crate) fn show<F: Finder, C: CoverMaker>(
 ) -> Result<(), AllocError>
 where
     C::Weight: WrittenWeight,
-    ensures { IfOk result (λ _. Adds (state_text C.Weight.kind C.Weight.form (state job.now)) output.old output.new) }
+    ensures { IfOk result (λ _. Adds (state_text C.Weight.form (state job.now)) output.old output.new) }
 {
     let bracket = job.bracket();
     let status = job.status();
