@@ -1,1 +1,1 @@
-pub mod Throws
+pub mod Xorshift

@@ -1,0 +1,35 @@
+//! Draws clauses.
+ghost use Rattle.std.specs.Prelude.{◌<◌};
+
+use random::Xorshift;
+use std::alloc::{AllocError, Global};
+
+/// The seed of each comparison. Another one gives other inputs.
+pub(crate) const SEED: u64 = 0x9e37_79b9_7f4a_7c15;
+
+/// Draws so many literals of the variables, which may repeat each other or be opposites; none where there is no variable.
+pub(crate) fn draw_literals(
+    alloc: Global,
+    random: &mut Xorshift,
+    variables: u8,
+    size: u8,
+) -> Result<Vec<i32>, AllocError> {
+    let mut literals = Vec::new(alloc);
+    if variables > 0 {
+        for _ in 0..size {
+            literals.push(draw_literal(random, variables))?;
+        }
+    }
+    Ok(literals)
+}
+
+fn draw_literal(random: &mut Xorshift, variables: u8) -> i32
+    requires { 0 < variables }
+{
+    let variable = 1 + i32::from(random.up_to(variables - 1));
+    if random.one_in(2) {
+        variable
+    } else {
+        -variable
+    }
+}
