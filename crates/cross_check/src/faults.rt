@@ -62,11 +62,8 @@ pub(crate) enum Fault {
     NoMemory(#[from(alloc)] AllocError),
 }
 
-/// Why both refuse a call, if they do.
-pub(crate) fn same(
-    first: Option<Refusal>,
-    second: Option<Refusal>,
-) -> Result<Option<Refusal>, Fault> {
+/// Why both refuse a call, or that neither does.
+pub(crate) fn same<R: PartialEq + Drop>(first: R, second: R) -> Result<R, Fault> {
     if first != second {
         return Err(Fault::Refusals);
     }

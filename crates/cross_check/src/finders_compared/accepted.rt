@@ -44,8 +44,7 @@ impl<'a> Accepted<'a> {
         broken
     }
 
-    /// Checks what came of the question for the set, with what is in the buffer after it: a core lies within the set, and only a
-    /// model writes.
+    /// Checks what came of the question for the set, with what is in the buffer after it.
     pub(crate) fn check(
         &self,
         set: SoftSet,
@@ -53,9 +52,15 @@ impl<'a> Accepted<'a> {
         buffer: &[u8],
     ) -> Result<(), Fault> {
         match outcome {
-            Ok(Answer::Model) => self.check_model(set, buffer),
-            Ok(Answer::Core(core)) if !core.is_subset(set) => Err(Fault::CoreOutside),
-            _ => check_untouched(buffer),
+            Ok(answer) => self.check_answer(set, answer, buffer),
+            Err(_) => check_untouched(buffer),
+        }
+    }
+
+    fn check_answer(&self, set: SoftSet, answer: Answer, buffer: &[u8]) -> Result<(), Fault> {
+        match answer {
+            Answer::Model => self.check_model(set, buffer),
+            Answer::Core(core) => check_core(set, core, buffer),
         }
     }
 
@@ -72,6 +77,14 @@ impl<'a> Accepted<'a> {
         }
         check_untouched(rest)
     }
+}
+
+/// A core lies within the set, and leaves the whole buffer.
+fn check_core(set: SoftSet, core: SoftSet, buffer: &[u8]) -> Result<(), Fault> {
+    if !core.is_subset(set) {
+        return Err(Fault::CoreOutside);
+    }
+    check_untouched(buffer)
 }
 
 /// Bytes that no answer may write.

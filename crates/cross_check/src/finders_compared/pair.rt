@@ -60,15 +60,16 @@ impl<'a, F: Finder, G: Finder> Pair<'a, F, G> {
         self.accepted.check(set, first, &buffer)?;
         self.accepted.check(set, second, &other)?;
         match (first, second) {
-            (Ok(first), Ok(second)) => self.compare_answers(set, first, second),
-            (Err(first), Err(second)) if first == second => {
-                Ok(Outcome::QuestionRefused(first.number()))
+            (Ok(first), Ok(second)) => Ok(self.compare_answers(set, first, second)?),
+            (Err(first), Err(second)) => {
+                let refusal = same(first, second)?;
+                Ok(Outcome::QuestionRefused(refusal.number()))
             }
             _ => Err(Fault::Refusals),
         }
     }
 
-    /// Both answer a model, or both a core, and the first finder has no model for the core of the second.
+    /// Both answer a model, or both a core.
     pub(crate) fn compare_answers(
         &self,
         set: SoftSet,
@@ -78,14 +79,23 @@ impl<'a, F: Finder, G: Finder> Pair<'a, F, G> {
         match (first, second) {
             (Answer::Model, Answer::Model) => Ok(Outcome::Model),
             (Answer::Core(_), Answer::Core(core)) => {
-                let mut buffer = [UNTOUCHED; MOST_VARIABLES];
-                match self.reference.ask(core, &mut buffer) {
-                    Ok(Answer::Core(_)) if core == set => Ok(Outcome::WholeCore),
-                    Ok(Answer::Core(_)) => Ok(Outcome::SmallerCore),
-                    _ => Err(Fault::NoCore),
-                }
+                self.confirm(core)?;
+                Ok(if core == set {
+                    Outcome::WholeCore
+                } else {
+                    Outcome::SmallerCore
+                })
             }
             _ => Err(Fault::Answers),
+        }
+    }
+
+    /// The first finder has no model for the core of the second.
+    fn confirm(&self, core: SoftSet) -> Result<(), Fault> {
+        let mut buffer = [UNTOUCHED; MOST_VARIABLES];
+        match self.reference.ask(core, &mut buffer) {
+            Ok(Answer::Core(_)) => Ok(()),
+            _ => Err(Fault::NoCore),
         }
     }
 
@@ -99,8 +109,9 @@ impl<'a, F: Finder, G: Finder> Pair<'a, F, G> {
                 }
                 Ok(Outcome::Broken)
             }
-            (Err(first), Err(second)) if first == second => {
-                Ok(Outcome::AssignmentRefused(first.number()))
+            (Err(first), Err(second)) => {
+                let refusal = same(first, second)?;
+                Ok(Outcome::AssignmentRefused(refusal.number()))
             }
             _ => Err(Fault::Refusals),
         }

@@ -117,7 +117,7 @@ where
         Ok(Said {
             status: self.job.status(),
             floor: bracket.floor.read(),
-            ceiling: bracket.ceiling.map(Reckoned::read),
+            ceiling: bracket.ceiling.map(|ceiling| ceiling.read()),
             plan,
         })
     }

@@ -61,15 +61,18 @@ where
     let outline = Outline::draw(random, number);
     for weights in outline.weights {
         for _ in 0..weights {
-            let refusal = pair.add_weight(draw_weight(random, outline.spread))?;
+            let weight = draw_weight(random, outline.spread);
+            let refusal = pair.add_weight(weight)?;
             count(tally, refusal, Outcome::WeightAdded)?;
         }
         for _ in 0..outline.cores {
-            let refusal = pair.add_core(draw_core(random, outline.longest, &pair.taken))?;
+            let core = draw_core(random, outline.longest, &pair.taken);
+            let refusal = pair.add_core(core)?;
             count(tally, refusal, Outcome::CoreAdded)?;
         }
         for _ in 0..4 {
-            let refusal = pair.compare_cost(draw_set(random, given(&pair.taken)))?;
+            let set = draw_set(random, given(&pair.taken));
+            let refusal = pair.compare_cost(set)?;
             count(tally, refusal, Outcome::CostTold)?;
         }
         let (counted, branched) = pair.compare_covers()?;
