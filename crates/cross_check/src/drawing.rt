@@ -1,6 +1,4 @@
 //! Draws clauses.
-ghost use Rattle.std.specs.Prelude.{◌<◌};
-
 use random::Xorshift;
 use std::alloc::{AllocError, Global};
 
@@ -17,19 +15,13 @@ pub(crate) fn draw_literals(
     let mut literals = Vec::new(alloc);
     if variables > 0 {
         for _ in 0..size {
-            literals.push(draw_literal(random, variables))?;
+            let variable = 1 + i32::from(random.up_to(variables - 1));
+            literals.push(if random.one_in(2) {
+                variable
+            } else {
+                -variable
+            })?;
         }
     }
     Ok(literals)
-}
-
-fn draw_literal(random: &mut Xorshift, variables: u8) -> i32
-    requires { 0 < variables }
-{
-    let variable = 1 + i32::from(random.up_to(variables - 1));
-    if random.one_in(2) {
-        variable
-    } else {
-        -variable
-    }
 }

@@ -1,6 +1,5 @@
 //! Where two parts disagree, or where an answer is wrong.
 use std::alloc::AllocError;
-use terms::Refusal;
 use thiserror::Error;
 
 /// What ends a comparison before its last call.
@@ -62,21 +61,10 @@ pub(crate) enum Fault {
     NoMemory(#[from(alloc)] AllocError),
 }
 
-/// Why both refuse a call, or that neither does.
-pub(crate) fn same<R: PartialEq + Drop>(first: R, second: R) -> Result<R, Fault> {
+/// What both parts answer, where they answer the same.
+pub(crate) fn same<A: PartialEq + Drop>(first: A, second: A, fault: Fault) -> Result<A, Fault> {
     if first != second {
-        return Err(Fault::Refusals);
+        return Err(fault);
     }
     Ok(first)
-}
-
-/// Why a call is refused, if it is, where the same was told before.
-pub(crate) fn as_told(
-    told: Option<Refusal>,
-    refusal: Option<Refusal>,
-) -> Result<Option<Refusal>, Fault> {
-    if told != refusal {
-        return Err(Fault::ToldOtherwise);
-    }
-    Ok(refusal)
 }

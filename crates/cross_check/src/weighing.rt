@@ -4,7 +4,7 @@ use std::fmt;
 use weights::{Levels, Plain, WeightKind};
 
 /// How the weights of a store or of a job lie.
-#[derive(Clone, Copy, Debug)]
+#[derive(Clone, Copy)]
 pub(crate) enum Spread {
     Equal,
     /// Up to 9, or up to this in each level.
@@ -56,7 +56,16 @@ impl Drawn for Levels {
                 let amount = (random.word() >> 36) as u32 >> random.up_to(24);
                 draw_level(random, amount)
             }
-            Spread::Great => draw_great_levels(random),
+            Spread::Great => {
+                let amount = (random.word() >> 32) as u32 >> random.up_to(6);
+                let level = random.up_to(2);
+                let few = u32::from(random.up_to(2));
+                match level {
+                    0 => Levels::new(amount, few, 0),
+                    1 => Levels::new(0, amount, few),
+                    _ => Levels::new(few, 0, amount),
+                }
+            }
             Spread::Mixed if random.one_in(2) => {
                 let amount = u32::from(random.up_to(3));
                 draw_level(random, amount)
@@ -75,17 +84,5 @@ fn draw_level(random: &mut Xorshift, amount: u32) -> Levels {
         0 => Levels::new(amount, 0, 0),
         1 => Levels::new(0, amount, 0),
         _ => Levels::new(0, 0, amount),
-    }
-}
-
-/// Draws a great amount in one level, and up to two in another.
-fn draw_great_levels(random: &mut Xorshift) -> Levels {
-    let amount = (random.word() >> 32) as u32 >> random.up_to(6);
-    let level = random.up_to(2);
-    let few = u32::from(random.up_to(2));
-    match level {
-        0 => Levels::new(amount, few, 0),
-        1 => Levels::new(0, amount, few),
-        _ => Levels::new(few, 0, amount),
     }
 }

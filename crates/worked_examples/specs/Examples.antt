@@ -1,6 +1,7 @@
 -- The worked examples, as one list of statements about the meanings that the contracts use.
 use Rattle.std.specs.Prelude.{◌≡◌, ℕ, zero, suc, ◌+◌, ◌^◌, true, false, List, [], ◌∷◌, ℤ, pos, negsuc}
 use Rattle.terms.specs.Clauses.{satisfied_by}
+use Rattle.terms.specs.declared.limits.TheConstants.{SOFT_PLACES, MOST_COUNTED}
 use Rattle.finders.specs.Meanings.{FinderMeaning, fresh, with_hard, with_soft}
 use Rattle.finders.specs.Questions.{Core}
 use Rattle.weights.specs.Costs.{cost, charge}
@@ -42,7 +43,7 @@ AdmitsNothing = (m : FinderMeaning) (a : List ℕ) → (with_hard m []).admits a
 
 -- one variable, with the soft clauses (-1) and (1)
 abbrev pub opposites : FinderMeaning
-opposites = with_soft (with_soft (fresh 1 64 2 2) (off 1 ∷ [])) (on 1 ∷ [])
+opposites = with_soft (with_soft (fresh 1 SOFT_PLACES 2 2) (off 1 ∷ [])) (on 1 ∷ [])
 
 -- the mask of a set
 abbrev pub set : List ℕ → ℕ
@@ -59,7 +60,7 @@ NoClash ks = Clash ks → ⊥
 -- the weights 2, 3 and 4, and then the cores {0, 1}, {1, 2} and {0, 2}
 abbrev pub triangle : MakerMeaning Plain
 triangle =
-    with_core (with_core (with_core (with_weight (with_weight (with_weight (fresh_maker 16) (plain 2)) (plain 3)) (plain 4)) (set (0 ∷ 1 ∷ [])))
+    with_core (with_core (with_core (with_weight (with_weight (with_weight (fresh_maker MOST_COUNTED) (plain 2)) (plain 3)) (plain 4)) (set (0 ∷ 1 ∷ [])))
     (set (1 ∷ 2 ∷ []))) (set (0 ∷ 2 ∷ []))
 
 abbrev pub LeastCover : List ℕ → ℕ → Type 0

@@ -9,7 +9,7 @@ use terms::{Refusal, SoftSet, is_binary, satisfies};
 pub(crate) const UNTOUCHED: u8 = 7;
 
 /// The number of variables, and the clauses in their order.
-#[derive(Debug, Drop)]
+#[derive(Drop)]
 pub(crate) struct Accepted<'a> {
     pub(crate) variables: usize,
     pub(crate) hards: Vec<&'a [i32]>,

@@ -12,7 +12,7 @@ const CLAUSE_PLACES: usize = 90;
 const LITERAL_PLACES: usize = 600;
 
 /// How large an input is, how many of eight clauses are hard, and how short clauses can be.
-#[derive(Clone, Copy, Debug)]
+#[derive(Clone, Copy)]
 struct Outline {
     variables: u8,
     clauses: u8,
@@ -60,11 +60,11 @@ pub(crate) fn draw_input(
         calls: Vec::new(alloc),
     };
     for _ in 0..outline.clauses {
-        input.add(draw_clause(alloc, random, outline)?)?;
+        input.calls.push(draw_clause(alloc, random, outline)?)?;
     }
     draw_questions(alloc, random, &mut input)?;
     for _ in 0..1 + random.up_to(3) {
-        input.add(draw_clause(alloc, random, outline)?)?;
+        input.calls.push(draw_clause(alloc, random, outline)?)?;
     }
     draw_questions(alloc, random, &mut input)?;
     Ok(input)
@@ -79,22 +79,13 @@ fn draw_places(random: &mut Xorshift, enough: usize) -> usize {
     }
 }
 
-/// A hard or a soft clause.
+/// A hard or a soft clause, now and then with a bad literal behind the others.
 fn draw_clause(alloc: Global, random: &mut Xorshift, outline: Outline) -> Result<Call, AllocError> {
     let kind = if random.up_to(7) < outline.hard_of_eight {
         Kind::Hard
     } else {
         Kind::Soft
     };
-    Ok(Call::Add(kind, draw_clause_literals(alloc, random, outline)?))
-}
-
-/// Literals that may repeat each other or be opposites, now and then with a bad one behind them.
-fn draw_clause_literals(
-    alloc: Global,
-    random: &mut Xorshift,
-    outline: Outline,
-) -> Result<Vec<i32>, AllocError> {
     let size = match outline.variables {
         0 => 0,
         _ => draw_size(random).max(outline.shortest),
@@ -103,7 +94,7 @@ fn draw_clause_literals(
     if random.one_in(100) {
         literals.push(draw_bad_literal(random, outline.variables))?;
     }
-    Ok(literals)
+    Ok(Call::Add(kind, literals))
 }
 
 /// Mostly one to three literals, and now and then as many as a clause may have, or one more.
@@ -139,7 +130,7 @@ fn draw_questions(
     draw_asks(random, input)?;
     for _ in 0..2 {
         let assignment = draw_assignment(alloc, random, usize::from(input.variables))?;
-        input.add(Call::Broken(assignment))?;
+        input.calls.push(Call::Broken(assignment))?;
     }
     Ok(())
 }

@@ -23,7 +23,7 @@ pub(crate) enum Call {
 }
 
 /// The number of variables, the lengths of the two tables, and the calls.
-#[derive(Debug, Drop)]
+#[derive(Drop)]
 pub(crate) struct Input {
     pub(crate) variables: u8,
     pub(crate) clause_places: usize,
@@ -35,20 +35,17 @@ impl Input {
     /// How many soft clauses are accepted as long as there are places.
     pub(crate) fn soft_count(&self) -> usize {
         let variables = usize::from(self.variables);
-        self.calls
-            .iter()
-            .filter(
-                |call| matches!(call, Call::Add(Kind::Soft, clause) if is_taken(clause, variables)),
-            )
+        let is_taken = |clause: &[i32]| {
+            clause.len() <= MOST_LITERALS && first_bad_literal(clause, variables).is_none()
+        };
+        let calls = self.calls.iter();
+        calls
+            .filter(|call| matches!(call, Call::Add(Kind::Soft, clause) if is_taken(clause)))
             .count()
     }
 
-    pub(crate) fn add(&mut self, call: Call) -> Result<(), AllocError> {
-        Ok(self.calls.push(call)?)
-    }
-
     pub(crate) fn ask(&mut self, set: SoftSet, bytes: usize) -> Result<(), AllocError> {
-        self.add(Call::Ask { set, bytes })
+        Ok(self.calls.push(Call::Ask { set, bytes })?)
     }
 
     /// Shows the sizes, and the calls up to the one of this index.
@@ -62,9 +59,4 @@ impl Input {
         }
         Ok(())
     }
-}
-
-/// Whether a clause is neither too long nor has a bad literal.
-fn is_taken(clause: &[i32], variables: usize) -> bool {
-    clause.len() <= MOST_LITERALS && first_bad_literal(clause, variables).is_none()
 }

@@ -1,7 +1,7 @@
 //! Makes the same calls on two finders and compares what they answer.
 use super::accepted::{Accepted, UNTOUCHED};
 use super::inputs::{Call, Kind};
-use crate::faults::{Fault, as_told, same};
+use crate::faults::{Fault, same};
 use crate::tally::Outcome;
 use finders::{Answer, Finder};
 use std::alloc::Global;
@@ -42,7 +42,7 @@ impl<'a, F: Finder, G: Finder> Pair<'a, F, G> {
     fn add(&mut self, kind: Kind, clause: &'a [i32]) -> Result<Outcome, Fault> {
         let first = add(&mut self.reference, kind, clause)?;
         let second = add(&mut self.tested, kind, clause)?;
-        Ok(match same(first, second)? {
+        Ok(match same(first, second, Fault::Refusals)? {
             Some(refusal) => Outcome::ClauseRefused(refusal.number()),
             None => {
                 self.accepted.add(kind, clause)?;
@@ -62,7 +62,7 @@ impl<'a, F: Finder, G: Finder> Pair<'a, F, G> {
         match (first, second) {
             (Ok(first), Ok(second)) => Ok(self.compare_answers(set, first, second)?),
             (Err(first), Err(second)) => {
-                let refusal = same(first, second)?;
+                let refusal = same(first, second, Fault::Refusals)?;
                 Ok(Outcome::QuestionRefused(refusal.number()))
             }
             _ => Err(Fault::Refusals),
@@ -110,7 +110,7 @@ impl<'a, F: Finder, G: Finder> Pair<'a, F, G> {
                 Ok(Outcome::Broken)
             }
             (Err(first), Err(second)) => {
-                let refusal = same(first, second)?;
+                let refusal = same(first, second, Fault::Refusals)?;
                 Ok(Outcome::AssignmentRefused(refusal.number()))
             }
             _ => Err(Fault::Refusals),
@@ -120,13 +120,11 @@ impl<'a, F: Finder, G: Finder> Pair<'a, F, G> {
     /// Both have the variables of the input, and the soft clauses that were accepted.
     fn compare_counts(&self) -> Result<(), Fault> {
         let variables = self.accepted.variables;
-        if self.reference.variables() != variables || self.tested.variables() != variables {
-            return Err(Fault::Variables);
-        }
+        same(self.reference.variables(), variables, Fault::Variables)?;
+        same(self.tested.variables(), variables, Fault::Variables)?;
         let softs = self.accepted.softs.len();
-        if self.reference.soft_count() != softs || self.tested.soft_count() != softs {
-            return Err(Fault::SoftCounts);
-        }
+        same(self.reference.soft_count(), softs, Fault::SoftCounts)?;
+        same(self.tested.soft_count(), softs, Fault::SoftCounts)?;
         Ok(())
     }
 }
@@ -137,5 +135,5 @@ fn add<F: Finder>(finder: &mut F, kind: Kind, clause: &[i32]) -> Result<Option<R
         Kind::Hard => (finder.hard_refusal(clause), finder.add_hard(clause)),
         Kind::Soft => (finder.soft_refusal(clause), finder.add_soft(clause)),
     };
-    as_told(told, outcome.err())
+    same(told, outcome.err(), Fault::ToldOtherwise)
 }

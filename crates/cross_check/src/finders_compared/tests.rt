@@ -2,7 +2,7 @@
 use super::accepted::{Accepted, UNTOUCHED};
 use super::inputs::{Call, Kind};
 use super::pair::Pair;
-use crate::faults::{Fault, as_told};
+use crate::faults::Fault;
 use crate::tables::Tables;
 use crate::tally::Outcome;
 use finders::{Answer, Finder};
@@ -154,10 +154,6 @@ fn wrong_answers_of_a_finder_are_told(rt: HostRuntime) -> Result<(), Fail> {
     let refused = |byte: u8| accepted.check(set, Err(Refusal::TooShort), &[byte]).err();
     assert_eq!(rt; refused(UNTOUCHED), None);
     assert_eq!(rt; refused(0), Some(Fault::Written));
-    let bad = Some(Refusal::BadLiteral);
-    assert_eq!(rt; as_told(bad, bad), Ok(bad));
-    assert_eq!(rt; as_told(None, bad), Err(Fault::ToldOtherwise));
-    assert_eq!(rt; as_told(bad, None), Err(Fault::ToldOtherwise));
     let mut tables = Tables::new(rt.alloc(), 4, 4)?;
     let mut others = Tables::new(rt.alloc(), 4, 4)?;
     let mut reference = tables.count_through(2);

@@ -4,7 +4,7 @@ use super::drawing::Call;
 use super::enumeration::{Cost, Enumeration};
 use super::reckoning::Reckoned;
 use super::said::Said;
-use crate::faults::Fault;
+use crate::faults::{Fault, same};
 use crate::tally::Outcome;
 use finders::Finder;
 use jobs::Job;
@@ -15,6 +15,9 @@ use terms::Refusal;
 
 // One more than the promise for ten soft clauses, since the last round is refused.
 const MOST_ROUNDS: u16 = 2050;
+
+// What a round is refused with after the end.
+const FINISHED: u8 = 7;
 
 /// A job, and an enumeration that was given the clauses that the job has accepted.
 #[derive(Drop)]
@@ -74,12 +77,10 @@ where
 
     /// Adds the clause to both, or tells what it is refused with.
     fn add_soft(&mut self, weight: C::Weight, clause: &[i32]) -> Result<Option<u8>, Fault> {
-        let (cost, most) = (weight.read(), C::Weight::most());
+        let (cost, most) = (weight.read(), C::Weight::MOST);
         let refusal = self.enumeration.soft_refusal(cost, clause, most);
         if let Some(number) = accepted(self.job.soft(weight, clause), refusal)? {
-            if number != self.enumeration.soft_count() {
-                return Err(Fault::SoftNumber);
-            }
+            same(number, self.enumeration.soft_count(), Fault::SoftNumber)?;
             self.enumeration.add_soft(cost, clause)?;
         }
         Ok(refusal)
@@ -91,7 +92,8 @@ where
         let least = self.enumeration.least_cost();
         let mut said = self.check(least)?;
         for _ in 0..most {
-            if accepted(self.job.round(), said.round_refusal())?.is_none() {
+            let refusal = said.has_ended().then_some(FINISHED);
+            if accepted(self.job.round(), refusal)?.is_none() {
                 break;
             }
             counts.tally.count(Outcome::Round)?;
@@ -136,8 +138,6 @@ fn accepted<T: Drop>(answer: Result<T, Refusal>, refusal: Option<u8>) -> Result<
         Ok(answer) => (Some(answer), None),
         Err(refusal) => (None, Some(refusal.number())),
     };
-    if got != refusal {
-        return Err(Fault::Refusals);
-    }
+    same(got, refusal, Fault::Refusals)?;
     Ok(answer)
 }

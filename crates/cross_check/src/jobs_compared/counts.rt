@@ -1,7 +1,8 @@
 //! What the jobs of one weight kind came to.
-use super::enumeration::Cost;
+use super::enumeration::{Cost, add};
 use super::reckoning::Reckoned;
 use crate::tally::{Outcome, Tally};
+use itertools::Itertools;
 use std::alloc::{AllocError, Global};
 use std::io;
 
@@ -17,8 +18,8 @@ impl Counts {
     pub(crate) fn new(alloc: Global) -> Counts {
         Counts {
             tally: Tally::new(alloc),
-            greatest: Cost::zero(),
-            total: Cost::zero(),
+            greatest: [0; 3],
+            total: [0; 3],
         }
     }
 
@@ -40,11 +41,11 @@ impl Counts {
             return self.tally.count(Outcome::Void);
         };
         self.tally.count(Outcome::Best)?;
-        if cost != Cost::zero() {
+        if cost != [0; 3] {
             self.tally.count(Outcome::Costly)?;
         }
-        self.total = self.total.plus(cost);
-        if self.greatest.is_below(cost) {
+        add(&mut self.total, cost);
+        if self.greatest < cost {
             self.greatest = cost;
         }
         Ok(())
@@ -52,9 +53,14 @@ impl Counts {
 
     pub(crate) fn show<W: Reckoned>(&self, rt: &(impl Print + AllocGlobal)) -> io::Result<()> {
         self.tally.show(rt)?;
-        let greatest = W::written(rt.alloc(), self.greatest)?;
+        let greatest = written::<W>(rt.alloc(), self.greatest)?;
         println!(rt; "  The greatest cost of a best plan: {greatest}.")?;
-        let total = W::written(rt.alloc(), self.total)?;
+        let total = written::<W>(rt.alloc(), self.total)?;
         println!(rt; "  The cost of all best plans together: {total}.")
     }
+}
+
+/// A cost in the form of the weight kind, however large it is.
+fn written<W: Reckoned>(alloc: Global, cost: Cost) -> Result<String, AllocError> {
+    cost.iter().take(W::NUMBERS).join(alloc, ",")
 }

@@ -18,7 +18,7 @@ pub(crate) enum Call<W: WeightKind> {
 }
 
 /// The number of variables, and the calls.
-#[derive(Debug, Drop)]
+#[derive(Drop)]
 pub(crate) struct Drawing<W: WeightKind> {
     pub(crate) variables: u8,
     pub(crate) calls: Vec<Call<W>>,
@@ -35,20 +35,16 @@ impl<W: Drawn> Drawing<W> {
     }
 }
 
-fn draw_spread(random: &mut Xorshift) -> Spread {
-    match random.up_to(2) {
-        0 => Spread::Equal,
-        1 => Spread::Small(2),
-        _ => Spread::Great,
-    }
-}
-
 /// Up to seven clauses of each sort, in half of the jobs some rounds and up to three more of each, and rounds to the end.
 pub(crate) fn draw_job<W: Drawn>(
     alloc: Global,
     random: &mut Xorshift,
 ) -> Result<Drawing<W>, AllocError> {
-    let spread = draw_spread(random);
+    let spread = match random.up_to(2) {
+        0 => Spread::Equal,
+        1 => Spread::Small(2),
+        _ => Spread::Great,
+    };
     let mut job = Drawing {
         variables: random.up_to(8),
         calls: Vec::new(alloc),
@@ -87,7 +83,7 @@ fn draw_clauses<W: Drawn>(
     Ok(())
 }
 
-/// A clause of which so many in ten have one literal, now and then one that came before.
+/// A clause of which so many in ten have one literal, now and then with a bad literal behind the others, or one that came before.
 fn draw_clause<W: Drawn>(
     alloc: Global,
     random: &mut Xorshift,
@@ -95,26 +91,16 @@ fn draw_clause<W: Drawn>(
     job: &Drawing<W>,
 ) -> Result<Vec<i32>, AllocError> {
     let index = usize::from(random.up_to(99));
-    match job.calls.get(index) {
-        Some(Call::Hard(earlier) | Call::Soft(_, earlier)) => earlier.clone(),
-        _ => draw_clause_literals(alloc, random, singles, job.variables),
+    if let Some(Call::Hard(earlier) | Call::Soft(_, earlier)) = job.calls.get(index) {
+        return earlier.clone();
     }
-}
-
-/// Literals that may repeat each other or be opposites, now and then with a bad one behind them.
-fn draw_clause_literals(
-    alloc: Global,
-    random: &mut Xorshift,
-    singles: u8,
-    variables: u8,
-) -> Result<Vec<i32>, AllocError> {
-    let size = match variables {
+    let size = match job.variables {
         0 => 0,
         _ => draw_size(random, singles),
     };
-    let mut literals = draw_literals(alloc, random, variables, size)?;
+    let mut literals = draw_literals(alloc, random, job.variables, size)?;
     if random.one_in(80) {
-        literals.push(draw_bad_literal(random, variables))?;
+        literals.push(draw_bad_literal(random, job.variables))?;
     }
     Ok(literals)
 }

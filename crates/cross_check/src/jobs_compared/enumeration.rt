@@ -3,55 +3,23 @@
 use std::alloc::{AllocError, Global};
 
 /// A weight or a total: three whole numbers, of which each counts more than all after it. A plain one has only the first.
-#[derive(Clone, Copy, PartialEq, Eq, Debug)]
-pub(crate) struct Cost {
-    pub(crate) first: u128,
-    pub(crate) second: u128,
-    pub(crate) third: u128,
+pub(crate) type Cost = [u128; 3];
+
+/// Adds a cost to a total. The totals of these jobs stay far below 128 bits.
+pub(crate) fn add(total: &mut Cost, cost: Cost) {
+    total[0] = total[0].saturating_add(cost[0]);
+    total[1] = total[1].saturating_add(cost[1]);
+    total[2] = total[2].saturating_add(cost[2]);
 }
 
-impl Cost {
-    pub(crate) fn new(first: u128, second: u128, third: u128) -> Cost {
-        Cost {
-            first,
-            second,
-            third,
-        }
-    }
-
-    pub(crate) fn zero() -> Cost {
-        Cost::new(0, 0, 0)
-    }
-
-    /// Both together. The totals of these jobs stay far below 128 bits.
-    pub(crate) fn plus(self, other: Cost) -> Cost {
-        Cost {
-            first: self.first.saturating_add(other.first),
-            second: self.second.saturating_add(other.second),
-            third: self.third.saturating_add(other.third),
-        }
-    }
-
-    /// Whether it is less than the other: the first number that differs decides.
-    pub(crate) fn is_below(self, other: Cost) -> bool {
-        if self.first != other.first {
-            return self.first < other.first;
-        }
-        if self.second != other.second {
-            return self.second < other.second;
-        }
-        self.third < other.third
-    }
-
-    /// Whether each of the three numbers is within that of the other.
-    fn is_within(self, most: Cost) -> bool {
-        self.first <= most.first && self.second <= most.second && self.third <= most.third
-    }
+/// Whether each of the three numbers is within that of the other.
+fn is_within(cost: Cost, most: Cost) -> bool {
+    cost[0] <= most[0] && cost[1] <= most[1] && cost[2] <= most[2]
 }
 
 /// A clause as two sets of variables, with variable v at bit v - 1: it is met where one of the first is chosen, or one of the
 /// second is not.
-#[derive(Clone, Copy, Debug)]
+#[derive(Clone, Copy)]
 struct Clause {
     chosen: u32,
     left_out: u32,
@@ -89,14 +57,14 @@ fn bit_of(variable: u32) -> u32 {
 }
 
 /// A clause that may be broken, and what that costs.
-#[derive(Clone, Copy, Debug)]
+#[derive(Clone, Copy)]
 struct Soft {
     weight: Cost,
     clause: Clause,
 }
 
 /// Up to 31 variables, and the clauses in their order.
-#[derive(Debug, Drop)]
+#[derive(Drop)]
 pub(crate) struct Enumeration {
     variables: u8,
     hards: Vec<Clause>,
@@ -140,14 +108,14 @@ impl Enumeration {
         if let Some(refusal) = self.hard_refusal(literals) {
             return Some(refusal);
         }
-        if weight == Cost::zero() {
+        if weight == [0; 3] {
             return Some(10);
         }
         let mut total = weight;
         for soft in &self.softs {
-            total = total.plus(soft.weight);
+            add(&mut total, soft.weight);
         }
-        if !total.is_within(most) {
+        if !is_within(total, most) {
             return Some(12);
         }
         None
@@ -159,7 +127,7 @@ impl Enumeration {
         let mut least: Option<Cost> = None;
         for plan in 0..plans {
             if let Some(cost) = self.cost_of(plan)
-                && least.is_none_or(|least| cost.is_below(least))
+                && least.is_none_or(|least| cost < least)
             {
                 least = Some(cost);
             }
@@ -189,10 +157,10 @@ impl Enumeration {
         if !self.hards.iter().all(|clause| clause.is_met(plan)) {
             return None;
         }
-        let mut cost = Cost::zero();
+        let mut cost = [0; 3];
         for soft in &self.softs {
             if !soft.clause.is_met(plan) {
-                cost = cost.plus(soft.weight);
+                add(&mut cost, soft.weight);
             }
         }
         Some(cost)

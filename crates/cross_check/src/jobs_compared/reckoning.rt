@@ -1,49 +1,35 @@
 //! Weights of both kinds, as costs of the second solver.
 use super::enumeration::Cost;
 use crate::weighing::Drawn;
-use std::alloc::{AllocError, Global};
 use weights::{Levels, Plain};
 
 /// A weight kind whose weights can be drawn, and read by the second solver.
 pub(crate) trait Reckoned: Drawn {
+    /// How many numbers a weight has.
+    const NUMBERS: usize;
+
+    /// The most that a total can be, in each of the three numbers of a cost.
+    const MOST: Cost;
+
     fn read(self) -> Cost;
-
-    /// The most that a total can be, in each of its three numbers.
-    fn most() -> Cost;
-
-    /// A cost in the form of the kind, however large it is.
-    fn written(alloc: Global, cost: Cost) -> Result<String, AllocError>;
 }
 
 impl Reckoned for Plain {
+    const NUMBERS: usize = 1;
+
+    const MOST: Cost = [u64::MAX as u128, 0, 0];
+
     fn read(self) -> Cost {
-        Cost::new(u128::from(self.amount), 0, 0)
-    }
-
-    fn most() -> Cost {
-        Cost::new(u128::from(u64::MAX), 0, 0)
-    }
-
-    fn written(alloc: Global, cost: Cost) -> Result<String, AllocError> {
-        format!(in alloc; "{}", cost.first)
+        [u128::from(self.amount), 0, 0]
     }
 }
 
 impl Reckoned for Levels {
+    const NUMBERS: usize = 3;
+
+    const MOST: Cost = [u32::MAX as u128; 3];
+
     fn read(self) -> Cost {
-        Cost::new(
-            u128::from(self.first),
-            u128::from(self.second),
-            u128::from(self.third),
-        )
-    }
-
-    fn most() -> Cost {
-        let most = u128::from(u32::MAX);
-        Cost::new(most, most, most)
-    }
-
-    fn written(alloc: Global, cost: Cost) -> Result<String, AllocError> {
-        format!(in alloc; "{},{},{}", cost.first, cost.second, cost.third)
+        [self.first, self.second, self.third].map(u128::from)
     }
 }

@@ -17,11 +17,6 @@ impl Said {
         matches!(self.status, Status::Best | Status::Void)
     }
 
-    /// What a round is refused with: 7 after the end.
-    pub(crate) fn round_refusal(&self) -> Option<u8> {
-        if self.has_ended() { Some(7) } else { None }
-    }
-
     /// Checks all of it with an enumeration of the same clauses, and the least cost that this one found.
     pub(crate) fn check(
         &self,
@@ -29,7 +24,7 @@ impl Said {
         least: Option<Cost>,
     ) -> Result<(), Fault> {
         self.check_plan(enumeration)?;
-        if least.is_some_and(|least| least.is_below(self.floor)) {
+        if least.is_some_and(|least| least < self.floor) {
             return Err(Fault::Floor);
         }
         match self.status {

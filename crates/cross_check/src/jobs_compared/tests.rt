@@ -17,7 +17,7 @@ use terms::Refusal;
 use weights::Plain;
 
 fn plain(amount: u128) -> Cost {
-    Cost::new(amount, 0, 0)
+    [amount, 0, 0]
 }
 
 // One of two options is needed; neither is wanted, at 3 and at 5, and then the first one is after all, at 4.

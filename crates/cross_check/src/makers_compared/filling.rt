@@ -12,7 +12,7 @@ use terms::{Refusal, SoftSet};
 use weights::WeightKind;
 
 /// How large a store is, and how its weights and cores are drawn.
-#[derive(Clone, Copy, Debug)]
+#[derive(Clone, Copy)]
 struct Outline {
     /// Weights that are added before there is a core, and weights that come later.
     weights: [u8; 2],
@@ -32,19 +32,15 @@ impl Outline {
         let late = random.up_to(weights / 2);
         Outline {
             weights: [weights - late, late],
-            spread: draw_spread(random),
+            spread: match random.up_to(3) {
+                0 => Spread::Equal,
+                1 => Spread::Small(3),
+                2 => Spread::Wide,
+                _ => Spread::Mixed,
+            },
             cores: random.up_to(20),
             longest: 2 + random.up_to(4),
         }
-    }
-}
-
-fn draw_spread(random: &mut Xorshift) -> Spread {
-    match random.up_to(3) {
-        0 => Spread::Equal,
-        1 => Spread::Small(3),
-        2 => Spread::Wide,
-        _ => Spread::Mixed,
     }
 }
 
@@ -118,7 +114,7 @@ fn draw_core<W: WeightKind>(random: &mut Xorshift, longest: u8, taken: &Taken<W>
     let core = draw_numbers(random, given, size);
     match random.up_to(39) {
         0 => SoftSet::empty(),
-        1 => core.insert(draw_unknown(random, given)),
+        1 => core.insert(usize::from(given) + usize::from(random.up_to(2))),
         2..=4 => draw_earlier(random, &taken.cores),
         5..=7 => draw_earlier(random, &taken.cores).union(core),
         8 => {
@@ -134,7 +130,7 @@ fn draw_set(random: &mut Xorshift, given: u8) -> SoftSet {
     let size = random.up_to(given);
     let set = draw_numbers(random, given, size);
     if random.one_in(10) {
-        set.insert(draw_unknown(random, given))
+        set.insert(usize::from(given) + usize::from(random.up_to(2)))
     } else {
         set
     }
@@ -148,11 +144,6 @@ fn draw_numbers(random: &mut Xorshift, given: u8, size: u8) -> SoftSet {
         set = set.insert(usize::from(number));
     }
     set
-}
-
-/// One of the next numbers that will be given.
-fn draw_unknown(random: &mut Xorshift, given: u8) -> usize {
-    usize::from(given) + usize::from(random.up_to(2))
 }
 
 /// A core that was added before, if there is one.

@@ -11,12 +11,12 @@ use weights::{Levels, Plain};
 
 /// Makes stores of several shapes and shows what their covers cost.
 pub(crate) fn show_large_stores(rt: &(impl Print + AllocGlobal)) -> Result<()> {
-    // The lighter numbers of the pairs weigh 1, 3, 5 and so on up to 63.
-    let weights = numbered(rt.alloc(), 64)?;
+    // The weights are 1, 2, 3 and so on. The lighter numbers of the pairs weigh 1, 3, 5 and so on up to 63.
+    let weights: Vec<Plain> = (1..=64).map(Plain::new).collect(rt.alloc())?;
     let cores = pairs(rt.alloc(), 0, 32)?;
     show_plain(rt, "Pairs", &weights, &cores, 1024)?;
     // The weights come to 528, and all but the heaviest are needed.
-    let weights = numbered(rt.alloc(), 32)?;
+    let weights: Vec<Plain> = (1..=32).map(Plain::new).collect(rt.alloc())?;
     let cores = every_two(rt.alloc(), 32)?;
     show_plain(rt, "Every two", &weights, &cores, 496)?;
     // Each ring needs three of its numbers.
@@ -63,13 +63,14 @@ fn show_full_store(rt: &(impl Print + AllocGlobal)) -> Result<()> {
     // Of the first 32 numbers 31 are needed, and of the other 32 one in each pair.
     let mut maker = show_plain(rt, "Every two, and pairs", &[one; 64], &cores, 47)?;
     let no_place = Refusal::NoSoftPlace(Part::CoverMaker);
-    same(maker.add_weight(one).err(), Some(no_place))?;
+    same(maker.add_weight(one).err(), Some(no_place), Fault::Refusals)?;
     println!(rt;
         "    One more weight is refused with {}.",
         no_place.number()
     )?;
     let no_place = Refusal::NoCorePlace;
-    same(maker.add_core(SoftSet::of(&[0, 63])).err(), Some(no_place))?;
+    let refusal = maker.add_core(SoftSet::of(&[0, 63])).err();
+    same(refusal, Some(no_place), Fault::Refusals)?;
     println!(rt; "    One more core is refused with {}.", no_place.number())?;
     Ok(())
 }
@@ -101,31 +102,22 @@ where
 {
     let mut taken = Taken::new(rt.alloc());
     for weight in weights {
-        same(maker.add_weight(*weight).err(), None)?;
+        same(maker.add_weight(*weight).err(), None, Fault::Refusals)?;
         taken.weights.push(*weight)?;
     }
     for core in cores {
-        same(maker.add_core(*core).err(), None)?;
+        same(maker.add_core(*core).err(), None, Fault::Refusals)?;
         taken.cores.push(*core)?;
     }
     let (softs, kept) = (maker.soft_count(), maker.core_count());
-    if kept != cores.len() {
-        return Err(Fault::CoreCounts.into());
-    }
+    same(kept, cores.len(), Fault::CoreCounts)?;
     let costs = taken.check_covers(&maker)?;
-    if costs.least != cost {
-        return Err(Fault::WorkedOut.into());
-    }
+    same(costs.least, cost, Fault::WorkedOut)?;
     let quick = costs.quick;
     println!(rt;
         "  {name}, with {softs} weights and {kept} cores: {cost} at the least, {quick} quickly."
     )?;
     Ok(maker)
-}
-
-/// The weights 1, 2, 3 and so on.
-fn numbered(alloc: Global, count: u64) -> Result<Vec<Plain>, AllocError> {
-    (1..=count).map(Plain::new).collect(alloc)
 }
 
 /// Cores of two numbers that follow each other; pair 0 has 0 and 1.

@@ -1,7 +1,6 @@
 //! Makes the same calls on two makers and compares what they answer.
 use super::taken::{Costs, Taken};
-use crate::faults::{Fault, as_told, same};
-use itertools::Itertools;
+use crate::faults::{Fault, same};
 use makers::CoverMaker;
 use std::alloc::Global;
 use std::{fmt, io};
@@ -29,15 +28,15 @@ where
 
     /// Adds the weight to both, or tells why both refuse it.
     pub(crate) fn add_weight(&mut self, weight: R::Weight) -> Result<Option<Refusal>, Fault> {
-        let told = same(
-            self.reference.weight_refusal(weight),
-            self.tested.weight_refusal(weight),
-        )?;
-        let refusal = same(
-            self.reference.add_weight(weight).err(),
+        let told = self.reference.weight_refusal(weight);
+        same(told, self.tested.weight_refusal(weight), Fault::Refusals)?;
+        let refusal = self.reference.add_weight(weight).err();
+        same(
+            refusal,
             self.tested.add_weight(weight).err(),
+            Fault::Refusals,
         )?;
-        as_told(told, refusal)?;
+        same(told, refusal, Fault::ToldOtherwise)?;
         if refusal.is_none() {
             self.taken.weights.push(weight)?;
         }
@@ -47,10 +46,8 @@ where
 
     /// Adds the core to both, or tells why both refuse it.
     pub(crate) fn add_core(&mut self, core: SoftSet) -> Result<Option<Refusal>, Fault> {
-        let refusal = same(
-            self.reference.add_core(core).err(),
-            self.tested.add_core(core).err(),
-        )?;
+        let refusal = self.reference.add_core(core).err();
+        same(refusal, self.tested.add_core(core).err(), Fault::Refusals)?;
         if refusal.is_none() {
             self.taken.cores.push(core)?;
         }
@@ -61,19 +58,18 @@ where
     /// Both have the weights that were added, and keep as many of the cores as they should.
     pub(crate) fn compare_counts(&self) -> Result<(), Fault> {
         let softs = self.taken.weights.len();
-        if self.reference.soft_count() != softs || self.tested.soft_count() != softs {
-            return Err(Fault::SoftCounts);
-        }
+        same(self.reference.soft_count(), softs, Fault::SoftCounts)?;
+        same(self.tested.soft_count(), softs, Fault::SoftCounts)?;
         let kept = self.taken.kept_count();
-        if self.reference.core_count() != kept || self.tested.core_count() != kept {
-            return Err(Fault::CoreCounts);
-        }
+        same(self.reference.core_count(), kept, Fault::CoreCounts)?;
+        same(self.tested.core_count(), kept, Fault::CoreCounts)?;
         Ok(())
     }
 
     /// Asks both for the cost of the set, and tells why both refuse it if they do.
     pub(crate) fn compare_cost(&self, set: SoftSet) -> Result<Option<Refusal>, Fault> {
-        let refusal = same(self.reference.cost(set).err(), self.tested.cost(set).err())?;
+        let refusal = self.reference.cost(set).err();
+        same(refusal, self.tested.cost(set).err(), Fault::Refusals)?;
         if refusal.is_none() {
             self.taken.check_cost(&self.reference, set)?;
             self.taken.check_cost(&self.tested, set)?;
@@ -91,26 +87,17 @@ where
         Ok((reference, tested))
     }
 
-    /// Shows what both makers have taken, and the covers of each.
-    pub(crate) fn show(&self, rt: &(impl Print + AllocGlobal)) -> io::Result<()> {
+    /// Shows what both makers have taken, and the quick and the least cover of each.
+    pub(crate) fn show(&self, rt: &impl Print) -> io::Result<()> {
         for weight in &self.taken.weights {
             println!(rt; "  Weight {weight}.")?;
         }
         for core in &self.taken.cores {
-            show_set(rt, "Core", *core)?;
+            println!(rt; "  Core {core:?}.")?;
         }
-        show_set(rt, "Counted quickly", self.reference.cover())?;
-        show_set(
-            rt,
-            "Counted at the least cost",
-            self.reference.least_cover(),
-        )?;
-        show_set(rt, "Branched quickly", self.tested.cover())?;
-        show_set(rt, "Branched at the least cost", self.tested.least_cover())
+        let (quick, least) = (self.reference.cover(), self.reference.least_cover());
+        println!(rt; "  Covers of the count-through maker: {quick:?}, {least:?}.")?;
+        let (quick, least) = (self.tested.cover(), self.tested.least_cover());
+        println!(rt; "  Covers of the branch-and-bound maker: {quick:?}, {least:?}.")
     }
-}
-
-fn show_set(rt: &(impl Print + AllocGlobal), what: &str, set: SoftSet) -> io::Result<()> {
-    let numbers = set.members().join(rt.alloc(), " ")?;
-    println!(rt; "  {what}: {{{numbers}}}.")
 }

@@ -6,14 +6,14 @@ use terms::SoftSet;
 use weights::{WeightKind, cost_of};
 
 /// The weights, each at its number, and every core that was added, in their order.
-#[derive(Debug, Drop)]
+#[derive(Drop)]
 pub(crate) struct Taken<W: WeightKind> {
     pub(crate) weights: Vec<W>,
     pub(crate) cores: Vec<SoftSet>,
 }
 
 /// What the quick cover and the least cover of a maker cost.
-#[derive(Clone, Copy, Debug)]
+#[derive(Clone, Copy)]
 pub(crate) struct Costs<W: WeightKind> {
     pub(crate) quick: W,
     pub(crate) least: W,
