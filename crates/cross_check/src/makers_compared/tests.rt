@@ -5,51 +5,93 @@ use crate::faults::Fault;
 use maker_branch::BranchAndBoundMaker;
 use maker_count::CountThroughMaker;
 use makers::CoverMaker;
-use std::alloc::{AllocError, Global};
+use std::alloc::Global;
 use std::test::Fail;
 use terms::SoftSet;
 use weights::Plain;
 
-type PlainPair = Pair<CountThroughMaker<Plain>, BranchAndBoundMaker<Plain>>;
+/// Weights and cores.
+#[derive(Clone, Copy)]
+struct Side<'c> {
+    weights: &'c [u64],
+    cores: &'c [&'c [usize]],
+}
 
-fn new_pair(alloc: Global) -> Result<PlainPair, AllocError> {
-    let reference = CountThroughMaker::new(alloc)?;
-    Ok(Pair::new(alloc, reference, BranchAndBoundMaker::new(alloc)?))
+impl Side<'_> {
+    fn enter(self, maker: &mut impl CoverMaker<Weight = Plain>) {
+        for amount in self.weights {
+            let _ = maker.add_weight(Plain::new(*amount));
+        }
+        for numbers in self.cores {
+            let _ = maker.add_core(SoftSet::of(numbers));
+        }
+    }
+}
+
+/// What is told of two makers, where the third weights and cores count as taken.
+fn told(alloc: Global, sides: [Side<'_>; 3]) -> Result<Option<Fault>, Fail> {
+    let [first, second, third] = sides;
+    let mut reference = CountThroughMaker::new(alloc)?;
+    first.enter(&mut reference);
+    let mut tested = BranchAndBoundMaker::new(alloc)?;
+    second.enter(&mut tested);
+    let mut pair = Pair::new(alloc, reference, tested);
+    for amount in third.weights {
+        pair.taken.weights.push(Plain::new(*amount))?;
+    }
+    for numbers in third.cores {
+        pair.taken.cores.push(SoftSet::of(numbers))?;
+    }
+    Ok(compare(&pair).err())
+}
+
+fn compare<R: CoverMaker<Weight = Plain>, T: CoverMaker<Weight = Plain>>(
+    pair: &Pair<R, T>,
+) -> Result<(), Fault> {
+    pair.compare_counts()?;
+    pair.compare_cost(SoftSet::of(&[0]))?;
+    pair.compare_covers()?;
+    Ok(())
 }
 
 #[test]
 fn makers_that_differ_are_told(rt: HostRuntime) -> Result<(), Fail> {
-    let mut pair = new_pair(rt.alloc())?;
-    let (first, second) = (SoftSet::of(&[0]), SoftSet::of(&[1]));
-    let both = SoftSet::of(&[0, 1]);
-    assert_eq!(rt; pair.tested.add_weight(Plain::new(3)), Ok(()));
-    assert_eq!(rt; pair.compare_counts(), Err(Fault::SoftCounts));
-    assert_eq!(rt; pair.compare_cost(first), Err(Fault::Refusals));
-    assert_eq!(rt; pair.reference.add_weight(Plain::new(2)), Ok(()));
-    pair.taken.weights.push(Plain::new(2))?;
-    assert_eq!(rt; pair.compare_cost(first), Err(Fault::Cost), "2 and 3");
-    let mut pair = new_pair(rt.alloc())?;
-    for amount in [2, 3] {
-        assert_eq!(rt; pair.add_weight(Plain::new(amount)), Ok(None));
-    }
-    assert_eq!(rt; pair.add_core(both), Ok(None));
-    assert!(rt; pair.compare_covers().is_ok());
-    assert_eq!(rt; pair.reference.add_core(second), Ok(()));
-    assert_eq!(rt; pair.compare_covers().err(), Some(Fault::LeastCosts));
-    assert_eq!(rt; pair.compare_counts(), Ok(()), "each keeps one core");
-    assert_eq!(rt; pair.reference.add_core(first), Ok(()));
-    assert_eq!(rt; pair.compare_counts(), Err(Fault::CoreCounts));
-    assert_eq!(rt; pair.compare_covers().err(), Some(Fault::Spare));
-    pair.taken.cores.push(first)?;
-    pair.taken.cores.push(second)?;
-    let tested = pair.taken.check_covers(&pair.tested);
-    assert_eq!(rt; tested.err(), Some(Fault::NoCover));
-    let show = |cores: &[SoftSet], cost: u64| {
-        show_plain(&rt, "A pair", &[2, 3].map(Plain::new), cores, cost).is_ok()
+    let alloc = rt.alloc();
+    let of = |cores| Side {
+        weights: &[2, 3, 4],
+        cores,
     };
-    assert!(rt; show(&[both], 2));
-    assert!(rt; !show(&[both], 1) && !show(&[both], 3), "2 is the cost");
-    assert!(rt; !show(&[both, both], 2), "one core is kept");
-    assert!(rt; !show(&[SoftSet::of(&[2])], 2), "2 is not given");
+    let none = of(&[]);
+    let fewer = Side {
+        weights: &[2, 3],
+        cores: &[],
+    };
+    let dearer = Side {
+        weights: &[3, 3, 4],
+        cores: &[],
+    };
+    let (first, second, pair) = (of(&[&[0]]), of(&[&[1]]), of(&[&[0, 1]]));
+    let (singles, pairs) = (of(&[&[0], &[1]]), of(&[&[0, 1], &[0, 2]]));
+    assert_eq!(rt; told(alloc, [pair, pair, pair])?, None);
+    assert_eq!(rt; told(alloc, [none, fewer, none])?, Some(Fault::SoftCounts));
+    assert_eq!(rt; told(alloc, [none, dearer, none])?, Some(Fault::Cost));
+    assert_eq!(rt;
+        told(alloc, [singles, pair, pair])?,
+        Some(Fault::CoreCounts)
+    );
+    assert_eq!(rt; told(alloc, [second, pair, pair])?, Some(Fault::LeastCosts));
+    assert_eq!(rt; told(alloc, [first, first, second])?, Some(Fault::NoCover));
+    assert_eq!(rt; told(alloc, [singles, singles, pairs])?, Some(Fault::Spare));
+    Ok(())
+}
+
+#[test]
+fn wrong_costs_of_large_stores_are_told(rt: HostRuntime) -> Result<(), Fail> {
+    let weights = [2, 3].map(Plain::new);
+    let pair = SoftSet::of(&[0, 1]);
+    assert!(rt; show_plain(&rt, "A pair", &weights, &[pair], 2).is_ok());
+    assert!(rt; show_plain(&rt, "A pair", &weights, &[pair], 3).is_err());
+    let twice = show_plain(&rt, "A pair", &weights, &[pair, pair], 2);
+    assert!(rt; twice.is_err(), "one core is kept");
     Ok(())
 }
