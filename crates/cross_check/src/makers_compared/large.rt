@@ -1,4 +1,4 @@
-//! Stores of up to 64 weights, with costs of least covers that were worked out by hand.
+//! Stores of up to 64 weights, with costs worked out by hand. The numbers are those of the rules, so no limit is cited by its name.
 use super::taken::Taken;
 use crate::faults::{Fault, same};
 use anyhow::Result;

@@ -1,20 +1,21 @@
 //! Makers that differ, or that hold other weights and cores than were taken: each of them is told.
 use super::large::show_plain;
 use super::pair::Pair;
+use super::taken::Taken;
 use crate::faults::Fault;
 use maker_branch::BranchAndBoundMaker;
 use maker_count::CountThroughMaker;
 use makers::CoverMaker;
-use std::alloc::Global;
+use std::alloc::{AllocError, Global};
 use std::test::Fail;
 use terms::SoftSet;
 use weights::Plain;
 
-/// Weights and cores.
+/// Weights, and cores by their masks.
 #[derive(Clone, Copy)]
 struct Side<'c> {
     weights: &'c [u64],
-    cores: &'c [&'c [usize]],
+    cores: &'c [u64],
 }
 
 impl Side<'_> {
@@ -22,9 +23,18 @@ impl Side<'_> {
         for amount in self.weights {
             let _ = maker.add_weight(Plain::new(*amount));
         }
-        for numbers in self.cores {
-            let _ = maker.add_core(SoftSet::of(numbers));
+        for mask in self.cores {
+            let _ = maker.add_core(SoftSet::from_mask(*mask));
         }
+    }
+
+    fn taken(self, alloc: Global) -> Result<Taken<Plain>, AllocError> {
+        let weights = self.weights.iter().map(|amount| Plain::new(*amount));
+        let cores = self.cores.iter().map(|mask| SoftSet::from_mask(*mask));
+        Ok(Taken {
+            weights: weights.collect(alloc)?,
+            cores: cores.collect(alloc)?,
+        })
     }
 }
 
@@ -35,13 +45,11 @@ fn told(alloc: Global, sides: [Side<'_>; 3]) -> Result<Option<Fault>, Fail> {
     first.enter(&mut reference);
     let mut tested = BranchAndBoundMaker::new(alloc)?;
     second.enter(&mut tested);
-    let mut pair = Pair::new(alloc, reference, tested);
-    for amount in third.weights {
-        pair.taken.weights.push(Plain::new(*amount))?;
-    }
-    for numbers in third.cores {
-        pair.taken.cores.push(SoftSet::of(numbers))?;
-    }
+    let pair = Pair {
+        reference,
+        tested,
+        taken: third.taken(alloc)?,
+    };
     Ok(compare(&pair).err())
 }
 
@@ -70,8 +78,8 @@ fn makers_that_differ_are_told(rt: HostRuntime) -> Result<(), Fail> {
         weights: &[3, 3, 4],
         cores: &[],
     };
-    let (first, second, pair) = (of(&[&[0]]), of(&[&[1]]), of(&[&[0, 1]]));
-    let (singles, pairs) = (of(&[&[0], &[1]]), of(&[&[0, 1], &[0, 2]]));
+    let (first, second, pair) = (of(&[0b01]), of(&[0b10]), of(&[0b11]));
+    let (singles, pairs) = (of(&[0b01, 0b10]), of(&[0b011, 0b101]));
     assert_eq!(rt; told(alloc, [pair, pair, pair])?, None);
     assert_eq!(rt; told(alloc, [none, fewer, none])?, Some(Fault::SoftCounts));
     assert_eq!(rt; told(alloc, [none, dearer, none])?, Some(Fault::Cost));
