@@ -11,7 +11,7 @@ use Rattle.clause_tables.specs.Wanted.{wanted}
 use Rattle.clause_tables.specs.declared.records.ClauseKind.{ClauseKind}
 use Rattle.clause_tables.specs.declared.records.ClauseKind.TheVariants.{Hard, Soft}
 use Rattle.finder_search.specs.ClauseStatus.{is_true, status}
-use Rattle.finder_search.specs.Literals.{place, positive, same}
+use Rattle.finder_search.specs.Literals.{index, positive, same}
 use Rattle.finder_search.specs.Propagation.{Sound, Belongs, is_met, IsAsked, ImpliesLast}
 use Rattle.finder_search.specs.Query.{Satisfies, Query}
 use Rattle.finder_search.specs.Reasons.{is_number, bit, Excludes, Backed, IsReason}
@@ -23,7 +23,7 @@ use Rattle.finder_search.specs.declared.clause_status.ClauseStatus.TheVariants.{
 use Rattle.finder_search.proofs.ClauseStatus.{broken_status, open_status, unit_status}
 use Rattle.finder_search.proofs.Extending.{extends_implied, unset_set}
 use Rattle.finder_search.proofs.Soundness.{sound_implied}
-use Rattle.finder_search.proofs.LiteralLaws.{place_within, true_is}
+use Rattle.finder_search.proofs.LiteralLaws.{index_within, true_is}
 use Rattle.finder_search.proofs.Quietness.{quiet_kept, quiet_made, stands_of_open}
 use Rattle.finder_search.proofs.Reasoning.{Rested, broken_clause, unit_clause, wanted_met}
 use Rattle.terms.specs.declared.limits.TheConstants.{SOFT_PLACES}
@@ -57,7 +57,7 @@ open_unmet q ss e u w h =
 
 -- ---- the reason that a clause gives
 rested : (ss : List Slot) (e : Entry) (r : Reason) → IsReason ss e r → Rested ss r e.clause
-rested ss e r of = (λ u h. of.0 u ∙ h, λ k h. of.1 k ∙ or_right (is_number e.kind k) (list_any (λ l. rests_on_soft (slot_at ss (place l)) k) e.clause) h)
+rested ss e r of = (λ u h. of.0 u ∙ h, λ k h. of.1 k ∙ or_right (is_number e.kind k) (list_any (λ l. rests_on_soft (slot_at ss (index l)) k) e.clause) h)
 
 -- the clause itself is wanted by the reason
 wanted_by : (wish : ℕ) (kind : ClauseKind) (r : Reason) → below SOFT_PLACES wish ≡ true → wanted wish kind ≡ true → ((k : ℕ) → is_number kind k ≡ true → member r.softs k ≡ true) → wanted r.softs kind ≡ true
@@ -71,14 +71,14 @@ soft_among q cs v k (Decided b d) h e = absurd (both_ways false refl e)
 soft_among q cs v k (Implied b d r) h e = h.0 k e
 
 softs_among : (q : Query) (k : ℕ) (ss : List Slot) (c : List ℤ) → Sound q ss → All (λ l. bad_literal q.table.n l ≡ false) c
-    → list_any (λ l. rests_on_soft (slot_at ss (place l)) k) c ≡ true → member q.set k ≡ true
+    → list_any (λ l. rests_on_soft (slot_at ss (index l)) k) c ≡ true → member q.set k ≡ true
 softs_among q k ss [] sound good h = absurd (both_ways false refl h)
 softs_among q k ss (l ∷ c) sound good h =
     ⊎_elim
-    (λ e. let within = place_within q.table.n l (All-head (λ x. bad_literal q.table.n x ≡ false) l c good) in
-    soft_among q (decisions ss) (place l) k (slot_at ss (place l)) (sound.backed (place l) (omega (arith, within, sound.wide))) e)
+    (λ e. let within = index_within q.table.n l (All-head (λ x. bad_literal q.table.n x ≡ false) l c good) in
+    soft_among q (decisions ss) (index l) k (slot_at ss (index l)) (sound.backed (index l) (omega (arith, within, sound.wide))) e)
     (λ e. softs_among q k ss c sound (All-rest (λ x. bad_literal q.table.n x ≡ false) l c _ refl good) e)
-    (or_cases (rests_on_soft (slot_at ss (place l)) k) (list_any (λ x. rests_on_soft (slot_at ss (place x)) k) c) h)
+    (or_cases (rests_on_soft (slot_at ss (index l)) k) (list_any (λ x. rests_on_soft (slot_at ss (index x)) k) c) h)
 
 number_among : (wish k : ℕ) (kind : ClauseKind) → wanted wish kind ≡ true → is_number kind k ≡ true → member wish k ≡ true
 number_among wish k Hard w h = absurd (both_ways false refl h)
@@ -89,7 +89,7 @@ module _ (q : Query) (ss : List Slot) (e : Entry) (r : Reason) (sound : Sound q 
   among : Subset r.softs q.set
   among k h =
       ⊎_elim (number_among q.set k e.kind asked.1) (softs_among q k ss e.clause sound asked.0.0)
-      (or_cases (is_number e.kind k) (list_any (λ l. rests_on_soft (slot_at ss (place l)) k) e.clause) (sym (of.1 k) ∙ h))
+      (or_cases (is_number e.kind k) (list_any (λ l. rests_on_soft (slot_at ss (index l)) k) e.clause) (sym (of.1 k) ∙ h))
 
   satisfied : (a : List ℕ) → Satisfies q.table r.softs a → satisfied_by a e.clause ≡ true
   satisfied a s = wanted_met (wanted r.softs e.kind) (satisfied_by a e.clause) (wanted_by q.set e.kind r few asked.1 (λ k own. of.1 k ∙ or_left (is_number e.kind k) _ own)) (asked.0.1 r.softs a s.1)
@@ -106,14 +106,14 @@ module _ (q : Query) (ss : List Slot) (e : Entry) (r : Reason) (sound : Sound q 
       }
 
   -- the last literal of a clause is true in each assignment that is left
-  backed_last : (u : ℤ) (level : ℕ) → status ss e.clause ≡ UnitClause u → Backed q (decisions ss) (place u) (Implied (positive u) level r)
+  backed_last : (u : ℤ) (level : ℕ) → status ss e.clause ≡ UnitClause u → Backed q (decisions ss) (index u) (Implied (positive u) level r)
   backed_last u level h =
       let p = unit_status ss e.clause u h in
       let unassigned = last_unassigned q ss e u asked.0 sound h in (
         among,
         λ a s f.
             let made = unit_clause q ss r a sound s f e.clause u asked.0.0 (rested ss e r of) p.0 p.1 (satisfied a s) in
-            same_sign (bit a (place u)) (positive u)
+            same_sign (bit a (index u)) (positive u)
             (sym (true_is q.table.n a u s.0 (subst (λ n. bad_literal n u ≡ false) sound.wide unassigned.0)) ∙ made),
       )
     where
@@ -125,17 +125,17 @@ module _ (q : Query) (ss : List Slot) (e : Entry) (r : Reason) (sound : Sound q 
 
 -- ---- what is left once the last literal is made true
 pub last_implied : (q : Query) (level : ℕ) (ss ts : List Slot) (e : Entry) (r : Reason) (u : ℤ) → Sound q ss → IsAsked q e → status ss e.clause ≡ UnitClause u
-    → ts ≡ set ss (place u) (Implied (positive u) level r) → below SOFT_PLACES q.set ≡ true → IsReason ss e r → ImpliesLast q level ss ts e u
+    → ts ≡ set ss (index u) (Implied (positive u) level r) → below SOFT_PLACES q.set ≡ true → IsReason ss e r → ImpliesLast q level ss ts e u
 last_implied q level ss ts e r u sound asked last implied few of =
     let value = Implied (positive u) level r in
     let unassigned = last_unassigned q ss e u asked.0 sound last in
-    let within = place_within (length ss) u unassigned.0 in
+    let within = index_within (length ss) u unassigned.0 in
     let alone = (unit_status ss e.clause u last).1 in
     record {
-      extends = subst (Extends level ss) (sym implied) (extends_implied level ss (place u) (positive u) r within unassigned.1);
+      extends = subst (Extends level ss) (sym implied) (extends_implied level ss (index u) (positive u) r within unassigned.1);
       sound = subst (Sound q) (sym implied)
-          (sound_implied q ss (place u) (positive u) level r within unassigned.1 sound (backed_last q ss e r sound asked few of u level last));
-      fewer = omega (arith, ap unset implied, unset_set ss (place u) value within unassigned.1 refl);
+          (sound_implied q ss (index u) (positive u) level r within unassigned.1 sound (backed_last q ss e r sound asked few of u level last));
+      fewer = omega (arith, ap unset implied, unset_set ss (index u) value within unassigned.1 refl);
       proper = subst (λ n. bad_literal n u ≡ false) sound.wide unassigned.0;
       keeps = quiet_kept q.table.n ss ts u value unassigned sound.wide refl implied q;
       own = quiet_made q.table.n ss ts u value unassigned sound.wide refl implied q e (stands_of_open ss e.clause u alone);

@@ -9,7 +9,7 @@ use Rattle.terms.specs.Clauses.{Assignment, binary, true_in, satisfied_by, bad_l
 use Rattle.clause_tables.specs.Entries.{Entry, IsProper}
 use Rattle.clause_tables.specs.Wanted.{wanted, met, all_met}
 use Rattle.finder_search.specs.ClauseStatus.{truth, is_so, is_true}
-use Rattle.finder_search.specs.Literals.{place, positive, same}
+use Rattle.finder_search.specs.Literals.{index, positive, same}
 use Rattle.finder_search.specs.Propagation.{is_met}
 use Rattle.finder_search.specs.Query.{Satisfies, Query}
 use Rattle.finder_search.specs.Trail.{slot_at, value_of, byte_of}
@@ -40,8 +40,8 @@ module _ (n : ℕ) (ss : List Slot) (wide : length ss ≡ n) where
   bytes_true : (l : ℤ) → bad_literal n l ≡ false → is_true ss l ≡ true → true_in (map byte_of ss) l ≡ true
   bytes_true l good h =
       true_is n (map byte_of ss) l (bytes_assign n ss wide) good
-      ∙ ap (λ x. same (eqb x 1) (positive l)) (get_or-map byte_of ss (place l) Unset)
-      ∙ byte_value (slot_at ss (place l)) l h
+      ∙ ap (λ x. same (eqb x 1) (positive l)) (get_or-map byte_of ss (index l) Unset)
+      ∙ byte_value (slot_at ss (index l)) l h
 
   bytes_satisfy : (c : List ℤ) → All (λ l. bad_literal n l ≡ false) c → list_any (is_true ss) c ≡ true → satisfied_by (map byte_of ss) c ≡ true
   bytes_satisfy [] good h = absurd (both_ways false refl h)

@@ -17,7 +17,7 @@ use Rattle.finder_search.specs.Literals.{row}
 use Rattle.finder_search.specs.Occurrences.{AddsClause, chain, has_number, numbers_with, occurs, occurs_in, occurs_among}
 use Rattle.finder_search.specs.declared.occurrences.Node.{Node}
 use Rattle.finder_search.specs.declared.occurrences.Occurrences.{Occurrences}
-use Rattle.finder_search.proofs.LiteralLaws.{place_within}
+use Rattle.finder_search.proofs.LiteralLaws.{index_within}
 use Rattle.finder_search.specs.Query.{Query}
 use Rattle.finder_search.specs.declared.literals.TheConstants.{LITERAL_ROWS}
 use Rattle.terms.specs.declared.limits.TheConstants.{MOST_VARIABLES, TABLE_PLACES}
@@ -66,8 +66,8 @@ one_along ns part older n h e long last =
 
 -- ---- rows
 row_within : (l : ℤ) → bad_literal MOST_VARIABLES l ≡ false → row l < LITERAL_ROWS
-row_within (pos k) h = omega (arith, place_within MOST_VARIABLES (pos k) h)
-row_within (negsuc k) h = omega (arith, place_within MOST_VARIABLES (negsuc k) h)
+row_within (pos k) h = omega (arith, index_within MOST_VARIABLES (pos k) h)
+row_within (negsuc k) h = omega (arith, index_within MOST_VARIABLES (negsuc k) h)
 
 row_one : (n : ℕ) (x l : ℤ) → bad_literal n x ≡ false → bad_literal n l ≡ false → row x ≡ row l → x ≡ l
 row_one n (pos zero) l g h e = absurd (both_ways true g refl)

@@ -10,36 +10,36 @@ use Rattle.terms.specs.Clauses.{bad_literal}
 use Rattle.clause_tables.specs.Entries.{Entry, IsProper}
 use Rattle.clause_tables.specs.Wanted.{wanted}
 use Rattle.finder_search.specs.ClauseStatus.{truth, is_so, is_true}
-use Rattle.finder_search.specs.Literals.{place, positive, negated, same}
+use Rattle.finder_search.specs.Literals.{index, positive, negated, same}
 use Rattle.finder_search.specs.Occurrences.{occurs_in}
 use Rattle.finder_search.specs.Propagation.{is_met, is_quiet, is_several}
 use Rattle.finder_search.specs.Query.{Query}
 use Rattle.finder_search.specs.Trail.{slot_at, value_of, is_unset, is_unassigned, Unassigned}
 use Rattle.finder_search.specs.declared.trail.Slot.{Slot}
 use Rattle.finder_search.specs.declared.trail.Slot.TheVariants.{Unset}
-use Rattle.finder_search.proofs.LiteralLaws.{place_within}
+use Rattle.finder_search.proofs.LiteralLaws.{index_within}
 
 -- ---- a literal of the same variable is the literal or its opposite
-same_place : (n : ℕ) (l u : ℤ) → bad_literal n l ≡ false → bad_literal n u ≡ false → place l ≡ place u → (l ≡ u) ⊎ (l ≡ negated u)
-same_place n (pos zero) u lp up e = absurd (both_ways true lp refl)
-same_place n (negsuc j) (pos zero) lp up e = absurd (both_ways true up refl)
-same_place n (pos (suc j)) (pos zero) lp up e = absurd (both_ways true up refl)
-same_place n (pos (suc j)) (pos (suc k)) lp up e = inl (let z : j ≡ k = omega (arith, e) in ap (λ i. pos (suc i)) z)
-same_place n (pos (suc j)) (negsuc k) lp up e = inr (let z : j ≡ k = omega (arith, e) in ap (λ i. pos (suc i)) z)
-same_place n (negsuc j) (pos (suc k)) lp up e = inr (let z : j ≡ k = omega (arith, e) in ap negsuc z)
-same_place n (negsuc j) (negsuc k) lp up e = inl (let z : j ≡ k = omega (arith, e) in ap negsuc z)
+same_index : (n : ℕ) (l u : ℤ) → bad_literal n l ≡ false → bad_literal n u ≡ false → index l ≡ index u → (l ≡ u) ⊎ (l ≡ negated u)
+same_index n (pos zero) u lp up e = absurd (both_ways true lp refl)
+same_index n (negsuc j) (pos zero) lp up e = absurd (both_ways true up refl)
+same_index n (pos (suc j)) (pos zero) lp up e = absurd (both_ways true up refl)
+same_index n (pos (suc j)) (pos (suc k)) lp up e = inl (let z : j ≡ k = omega (arith, e) in ap (λ i. pos (suc i)) z)
+same_index n (pos (suc j)) (negsuc k) lp up e = inr (let z : j ≡ k = omega (arith, e) in ap (λ i. pos (suc i)) z)
+same_index n (negsuc j) (pos (suc k)) lp up e = inr (let z : j ≡ k = omega (arith, e) in ap negsuc z)
+same_index n (negsuc j) (negsuc k) lp up e = inl (let z : j ≡ k = omega (arith, e) in ap negsuc z)
 
 same_self : (b : Bool) → same b b ≡ true
 same_self true = refl
 same_self false = refl
 
 -- ---- one slot is set so that the literal u is true
-module _ (n : ℕ) (ss us : List Slot) (u : ℤ) (s : Slot) (unassigned : Unassigned ss u) (wide : length ss ≡ n) (value : value_of s ≡ Some (positive u)) (made : us ≡ set ss (place u) s) where
-  slot_here : slot_at us (place u) ≡ s
-  slot_here = ap (λ xs. slot_at xs (place u)) made ∙ get_or-set_same ss (place u) s Unset (place_within (length ss) u unassigned.0)
+module _ (n : ℕ) (ss us : List Slot) (u : ℤ) (s : Slot) (unassigned : Unassigned ss u) (wide : length ss ≡ n) (value : value_of s ≡ Some (positive u)) (made : us ≡ set ss (index u) s) where
+  slot_here : slot_at us (index u) ≡ s
+  slot_here = ap (λ xs. slot_at xs (index u)) made ∙ get_or-set_same ss (index u) s Unset (index_within (length ss) u unassigned.0)
 
-  slot_elsewhere : (v : ℕ) → v ≢ place u → slot_at us v ≡ slot_at ss v
-  slot_elsewhere v ne = ap (λ xs. slot_at xs v) made ∙ get_or-set_other ss (place u) v s Unset ne
+  slot_elsewhere : (v : ℕ) → v ≢ index u → slot_at us v ≡ slot_at ss v
+  slot_elsewhere v ne = ap (λ xs. slot_at xs v) made ∙ get_or-set_other ss (index u) v s Unset ne
 
   u_true : is_true us u ≡ true
   u_true = ap (λ x. is_so (truth (value_of x) u)) slot_here ∙ ap (λ o. is_so (truth o u)) value ∙ same_self (positive u)
@@ -48,12 +48,12 @@ module _ (n : ℕ) (ss us : List Slot) (u : ℤ) (s : Slot) (unassigned : Unassi
   as_before : (l : ℤ) → bad_literal n l ≡ false → int_eq l (negated u) ≡ false → (l ≡ u) ⊎ ((is_true us l ≡ is_true ss l) × (is_unassigned us l ≡ is_unassigned ss l))
   as_before l proper other =
       ⊎_elim
-      (λ (e : place l ≡ place u).
+      (λ (e : index l ≡ index u).
       ⊎_elim (λ (here : l ≡ u). inl here)
       (λ opposite. absurd (both_ways (int_eq l (negated u)) other ((Decides-int_eq l (negated u)).1 opposite)))
-      (same_place n l u proper (subst (λ m. bad_literal m u ≡ false) wide unassigned.0) e))
-      (λ ne. inr (ap (λ x. is_so (truth (value_of x) l)) (slot_elsewhere (place l) ne), ap is_unset (slot_elsewhere (place l) ne)))
-      (cases_eq (place l) (place u))
+      (same_index n l u proper (subst (λ m. bad_literal m u ≡ false) wide unassigned.0) e))
+      (λ ne. inr (ap (λ x. is_so (truth (value_of x) l)) (slot_elsewhere (index l) ne), ap is_unset (slot_elsewhere (index l) ne)))
+      (cases_eq (index l) (index u))
 
   -- a clause without the opposite becomes true, or stays as it was
   clause_kept : (c : List ℤ) → All (λ l. bad_literal n l ≡ false) c → list_any (λ x. int_eq x (negated u)) c ≡ false

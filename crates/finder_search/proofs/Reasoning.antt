@@ -12,7 +12,7 @@ use Rattle.clause_tables.specs.Wanted.{wanted, met, all_met}
 use Rattle.clause_tables.specs.declared.records.ClauseKind.{ClauseKind}
 use Rattle.clause_tables.specs.declared.records.ClauseKind.TheVariants.{Hard, Soft}
 use Rattle.finder_search.specs.ClauseStatus.{truth, is_so, is_true}
-use Rattle.finder_search.specs.Literals.{place, positive, same}
+use Rattle.finder_search.specs.Literals.{index, positive, same}
 use Rattle.finder_search.specs.Propagation.{Sound}
 use Rattle.finder_search.specs.Query.{Satisfies, Query}
 use Rattle.finder_search.specs.Reasons.{clause_decisions, bit, Agrees, Follows, Backed}
@@ -22,7 +22,7 @@ use Rattle.finder_search.specs.declared.reasons.Reason.{Reason}
 use Rattle.finder_search.specs.declared.trail.Slot.{Slot}
 use Rattle.finder_search.specs.declared.trail.Slot.TheVariants.{Unset, Decided, Implied}
 use Rattle.finder_search.specs.declared.variable_sets.VariableSet.{VariableSet}
-use Rattle.finder_search.proofs.LiteralLaws.{place_within, true_is}
+use Rattle.finder_search.proofs.LiteralLaws.{index_within, true_is}
 
 -- ---- fewer soft clauses and fewer decisions
 -- a clause that is wanted and met is satisfied
@@ -57,37 +57,37 @@ follows_at ss E a v h f = subst (λ o. Agrees o (bit a v)) (get_or-map decision_
 
 -- ---- the reason has all that the literals of the clause rest on
 abbrev pub Rested : List Slot → Reason → List ℤ → Type 0
-Rested ss r c = ((u : ℕ) → clause_decisions ss c u ≡ true → has r.decisions u ≡ true) × ((k : ℕ) → list_any (λ l. rests_on_soft (slot_at ss (place l)) k) c ≡ true → member r.softs k ≡ true)
+Rested ss r c = ((u : ℕ) → clause_decisions ss c u ≡ true → has r.decisions u ≡ true) × ((k : ℕ) → list_any (λ l. rests_on_soft (slot_at ss (index l)) k) c ≡ true → member r.softs k ≡ true)
 
 rest : (ss : List Slot) (r : Reason) (l : ℤ) (c : List ℤ) → Rested ss r (l ∷ c) → Rested ss r c
-rest ss r l c on = (λ u h. on.0 u (or_right _ (clause_decisions ss c u) h), λ k h. on.1 k (or_right _ (list_any (λ l. rests_on_soft (slot_at ss (place l)) k) c) h))
+rest ss r l c on = (λ u h. on.0 u (or_right _ (clause_decisions ss c u) h), λ k h. on.1 k (or_right _ (list_any (λ l. rests_on_soft (slot_at ss (index l)) k) c) h))
 
 -- ---- one assignment that the reason speaks of
 module _ (q : Query) (ss : List Slot) (r : Reason) (a : List ℕ) (sound : Sound q ss) (serves : Satisfies q.table r.softs a) (follows : Follows (decisions ss) r.decisions a) where
   -- by the slot of its variable
-  false_by : (l : ℤ) (s : Slot) → place l < length ss → slot_at ss (place l) ≡ s
-      → ((u : ℕ) → rests_on_decision s (place l) u ≡ true → has r.decisions u ≡ true) → ((k : ℕ) → rests_on_soft s k ≡ true → member r.softs k ≡ true)
-      → is_so (truth (value_of s) l) ≡ false → is_unset s ≡ false → same (bit a (place l)) (positive l) ≡ false
+  false_by : (l : ℤ) (s : Slot) → index l < length ss → slot_at ss (index l) ≡ s
+      → ((u : ℕ) → rests_on_decision s (index l) u ≡ true → has r.decisions u ≡ true) → ((k : ℕ) → rests_on_soft s k ≡ true → member r.softs k ≡ true)
+      → is_so (truth (value_of s) l) ≡ false → is_unset s ≡ false → same (bit a (index l)) (positive l) ≡ false
   false_by l Unset m e onc ons untrue closed = absurd (both_ways true closed refl)
   false_by l (Decided b d) m e onc ons untrue closed =
-      let kept = subst (λ s. Agrees (decision_of s) (bit a (place l))) e (follows_at ss r.decisions a (place l) (onc (place l) (eq-eqb (place l) (place l) refl)) follows) in
+      let kept = subst (λ s. Agrees (decision_of s) (bit a (index l))) e (follows_at ss r.decisions a (index l) (onc (index l) (eq-eqb (index l) (index l) refl)) follows) in
       ap (λ x. same x (positive l)) kept ∙ untrue
   false_by l (Implied b d o) m e onc ons untrue closed =
-      let h = subst (Backed q (decisions ss) (place l)) e (sound.backed (place l) m) in
+      let h = subst (Backed q (decisions ss) (index l)) e (sound.backed (index l) m) in
       let kept = h.1 a (satisfies_fewer q.table o.softs r.softs a ons serves) (follows_part (decisions ss) o.decisions r.decisions a onc follows) in
       ap (λ x. same x (positive l)) kept ∙ untrue
 
   -- a literal that is false under the trail, by what the reason has
-  false_literal : (l : ℤ) → bad_literal q.table.n l ≡ false → ((u : ℕ) → rests_on_decision (slot_at ss (place l)) (place l) u ≡ true → has r.decisions u ≡ true)
-      → ((k : ℕ) → rests_on_soft (slot_at ss (place l)) k ≡ true → member r.softs k ≡ true) → is_true ss l ≡ false → is_unassigned ss l ≡ false → true_in a l ≡ false
+  false_literal : (l : ℤ) → bad_literal q.table.n l ≡ false → ((u : ℕ) → rests_on_decision (slot_at ss (index l)) (index l) u ≡ true → has r.decisions u ≡ true)
+      → ((k : ℕ) → rests_on_soft (slot_at ss (index l)) k ≡ true → member r.softs k ≡ true) → is_true ss l ≡ false → is_unassigned ss l ≡ false → true_in a l ≡ false
   false_literal l good onc ons untrue closed =
       true_is q.table.n a l serves.0 good
-      ∙ false_by l (slot_at ss (place l)) (omega (arith, place_within q.table.n l good, sound.wide)) refl onc ons untrue closed
+      ∙ false_by l (slot_at ss (index l)) (omega (arith, index_within q.table.n l good, sound.wide)) refl onc ons untrue closed
 
   closed_literal : (l : ℤ) (c : List ℤ) → All (λ x. bad_literal q.table.n x ≡ false) (l ∷ c) → Rested ss r (l ∷ c) → is_true ss l ≡ false → is_unassigned ss l ≡ false → true_in a l ≡ false
   closed_literal l c good on =
       false_literal l (All-head (λ x. bad_literal q.table.n x ≡ false) l c good)
-      (λ u h. on.0 u (or_left _ (clause_decisions ss c u) h)) (λ k h. on.1 k (or_left _ (list_any (λ x. rests_on_soft (slot_at ss (place x)) k) c) h))
+      (λ u h. on.0 u (or_left _ (clause_decisions ss c u) h)) (λ k h. on.1 k (or_left _ (list_any (λ x. rests_on_soft (slot_at ss (index x)) k) c) h))
 
   -- where no literal is true or open the assignment breaks the clause
   pub broken_clause : (c : List ℤ) → All (λ x. bad_literal q.table.n x ≡ false) c → Rested ss r c → list_any (is_true ss) c ≡ false → filter (is_unassigned ss) c ≡ [] → satisfied_by a c ≡ false

@@ -1,7 +1,7 @@
 -- How a clause stands under the values that are set.
 use Rattle.std.specs.Prelude.{Bool, false, if◌then◌else◌, List, [], ◌∷◌, ℤ, Some, None, Option}
 use Rattle.std.specs.List.{filter, list_any}
-use Rattle.finder_search.specs.Literals.{place, positive, same}
+use Rattle.finder_search.specs.Literals.{index, positive, same}
 use Rattle.finder_search.specs.Trail.{slot_at, value_of, is_unassigned}
 use Rattle.finder_search.specs.declared.trail.Slot.{Slot}
 use Rattle.finder_search.specs.declared.clause_status.ClauseStatus.{ClauseStatus}
@@ -17,7 +17,7 @@ is_so None = false
 is_so (Some b) = b
 
 abbrev pub is_true : List Slot → ℤ → Bool
-is_true ss l = is_so (truth (value_of (slot_at ss (place l))) l)
+is_true ss l = is_so (truth (value_of (slot_at ss (index l))) l)
 
 -- the status of a clause without a true literal, by those that have no value
 abbrev pub left_with : List ℤ → ClauseStatus

@@ -6,7 +6,7 @@ use Rattle.terms.specs.Sets.{fits}
 use Rattle.clause_tables.specs.Entries.{Entry}
 use Rattle.clause_tables.specs.declared.records.ClauseKind.{ClauseKind}
 use Rattle.clause_tables.specs.declared.records.ClauseKind.TheVariants.{Hard, Soft}
-use Rattle.finder_search.specs.Literals.{place}
+use Rattle.finder_search.specs.Literals.{index}
 use Rattle.finder_search.specs.Query.{Query, Satisfies}
 use Rattle.finder_search.specs.Trail.{slot_at, rests_on_decision, rests_on_soft}
 use Rattle.finder_search.specs.VariableSets.{has}
@@ -23,11 +23,11 @@ is_number (Soft i) k = i == k && fits k
 
 -- the decisions that the literals of the clause rest on
 abbrev pub clause_decisions : List Slot → List ℤ → ℕ → Bool
-clause_decisions ss c v = list_any (λ l. rests_on_decision (slot_at ss (place l)) (place l) v) c
+clause_decisions ss c v = list_any (λ l. rests_on_decision (slot_at ss (index l)) (index l) v) c
 
 -- the soft clauses that they rest on, and the clause itself
 abbrev pub clause_softs : List Slot → ClauseKind → List ℤ → ℕ → Bool
-clause_softs ss kind c k = is_number kind k || list_any (λ l. rests_on_soft (slot_at ss (place l)) k) c
+clause_softs ss kind c k = is_number kind k || list_any (λ l. rests_on_soft (slot_at ss (index l)) k) c
 
 -- the reason is the clause and what its literals rest on
 abbrev pub IsReason : List Slot → Entry → Reason → Type 0
@@ -41,14 +41,14 @@ IsUnion x y r =
     ((v : ℕ) → has r.decisions v ≡ (has x.decisions v || has y.decisions v))
     × ((k : ℕ) → member r.softs k ≡ (member x.softs k || member y.softs k))
 
--- both, but for the decision of the variable at this place
+-- both, but for the decision of the variable at this index
 abbrev pub IsJoined : Reason → Reason → ℕ → Reason → Type 0
-IsJoined x y place r =
-    ((v : ℕ) → has r.decisions v ≡ ((has x.decisions v || has y.decisions v) && not (place == v)))
+IsJoined x y index r =
+    ((v : ℕ) → has r.decisions v ≡ ((has x.decisions v || has y.decisions v) && not (index == v)))
     × ((k : ℕ) → member r.softs k ≡ (member x.softs k || member y.softs k))
 
 -- ---- what a reason says
--- whether the variable at place v is 1
+-- whether the variable at index v is 1
 abbrev pub bit : List ℕ → ℕ → Bool
 bit a v = slice_index a v == 1
 

@@ -2,7 +2,7 @@
 use Rattle.std.specs.Prelude.{◌≡◌, ℕ, ◌+◌, ◌^◌, ◌<◌, Bool, true, false, List, map, length, ℤ, Some, None, Option, Ok, Err, Result, slice_set}
 use Rattle.terms.specs.Clauses.{bad_literal}
 use Rattle.clause_tables.specs.Entries.{Entry}
-use Rattle.finder_search.specs.Literals.{place, positive}
+use Rattle.finder_search.specs.Literals.{index, positive}
 use Rattle.finder_search.specs.Propagation.{Quiet, Sound, is_met, is_quiet, losing, no_clause}
 use Rattle.finder_search.specs.Query.{Query, Satisfies}
 use Rattle.finder_search.specs.Reasons.{Excludes}
@@ -29,7 +29,7 @@ JustDecided q l level ss buffer = (bad_literal q.table.n l ≡ false) × Pending
 
 -- the decisions with that of this literal
 abbrev pub with_decision : List Slot → ℤ → List (Option Bool)
-with_decision ss l = slice_set (decisions ss) (place l) (Some (positive l))
+with_decision ss l = slice_set (decisions ss) (index l) (Some (positive l))
 
 -- ---- what to decide next
 -- a literal without a value, where there is one in a clause that is wanted and has no true literal

@@ -2,7 +2,7 @@
 use Rattle.std.specs.Prelude.{◌≡◌, ℕ, ◌+◌, ◌<◌, ◌≤◌, Bool, true, false, if◌then◌else◌, List, [], ◌∷◌, map, length, ℤ, Some, None, Option, ◌==◌, nat_lt, slice_index_or}
 use Rattle.terms.specs.Clauses.{bad_literal}
 use Rattle.terms.specs.Masks.{member}
-use Rattle.finder_search.specs.Literals.{place}
+use Rattle.finder_search.specs.Literals.{index}
 use Rattle.finder_search.specs.VariableSets.{has}
 use Rattle.finder_search.specs.declared.trail.Slot.{Slot}
 use Rattle.finder_search.specs.declared.trail.Slot.TheVariants.{Unset, Decided, Implied}
@@ -33,7 +33,7 @@ unset [] = 0
 unset (s ∷ ss) = (if is_unset s then 1 else 0) + unset ss
 
 abbrev pub is_unassigned : List Slot → ℤ → Bool
-is_unassigned ss l = is_unset (slot_at ss (place l))
+is_unassigned ss l = is_unset (slot_at ss (index l))
 
 -- a literal whose variable has no value
 abbrev pub Unassigned : List Slot → ℤ → Type 0
@@ -49,7 +49,7 @@ decision_of (Implied b d r) = None
 abbrev pub decisions : List Slot → List (Option Bool)
 decisions = map decision_of
 
--- a value that was decided rests on that decision of the variable, which has this place, and on nothing else
+-- a value that was decided rests on that decision of the variable, which has this index, and on nothing else
 abbrev pub rests_on_decision : Slot → ℕ → ℕ → Bool
 rests_on_decision Unset p v = false
 rests_on_decision (Decided b d) p v = p == v

@@ -4,6 +4,6 @@ use Rattle.terms.specs.Masks.{member}
 use Rattle.terms.specs.declared.limits.TheConstants.{SOFT_PLACES}
 use Rattle.finder_search.specs.declared.variable_sets.VariableSet.{VariableSet}
 
--- the variable at place v is in the set, whose parts have so many places each
+-- the variable at index v is in the set, whose parts have so many indices each
 unfoldable pub has : VariableSet → ℕ → Bool
 has s v = member (slice_index_or s.parts (v / SOFT_PLACES) 0) (v % SOFT_PLACES)

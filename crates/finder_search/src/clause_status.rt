@@ -3,10 +3,10 @@ ghost use Rattle.std.specs.Prelude.{◌≡◌, false, not, All, List, ◌++◌, 
 ghost use Rattle.std.specs.Option.{is_some};
 ghost use Rattle.terms.specs.Clauses.{bad_literal};
 ghost use Rattle.finder_search.specs.ClauseStatus.{left_with, status, truth};
-ghost use Rattle.finder_search.specs.Literals.{place};
+ghost use Rattle.finder_search.specs.Literals.{index};
 ghost use Rattle.finder_search.specs.Trail.{is_unassigned, slot_at, value_of};
 
-use crate::literals::place_of;
+use crate::literals::index_of;
 use crate::trail::Slot;
 
 /// How a clause stands. A literal that is written twice counts twice: (1, 1) without a value is open.
@@ -40,10 +40,10 @@ impl ClauseStatus {
 #[tactic(auto, using(crate::proofs::ClauseStatus::unset_none))]
 fn truth(trail: &[Slot], literal: i32) -> Option<bool>
     requires { bad_literal (length trail.now) literal ≡ false }
-    ensures value { result ≡ truth (value_of (slot_at trail.now (place literal))) literal }
+    ensures value { result ≡ truth (value_of (slot_at trail.now (index literal))) literal }
     ensures unset { is_unassigned trail.now literal ≡ not (is_some result) }
 {
-    trail[place_of(literal)]
+    trail[index_of(literal)]
         .value()
         .map(|value| value == (literal > 0))
 }

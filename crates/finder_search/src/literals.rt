@@ -1,17 +1,17 @@
 //! Literals by their variables and signs.
 ghost use Rattle.std.specs.Prelude.{◌≡◌, ◌<◌, false};
 ghost use Rattle.terms.specs.Clauses.{bad_literal, variable};
-ghost use Rattle.finder_search.specs.Literals.{negated, place, row};
+ghost use Rattle.finder_search.specs.Literals.{negated, index, row};
 
 use terms::limits::MOST_VARIABLES;
 
 /// The rows of an array that has one for each literal.
 pub(crate) const LITERAL_ROWS: usize = 2 * MOST_VARIABLES;
 
-/// The place of the literal's variable.
-pub(crate) fn place_of(literal: i32) -> usize
+/// The index of the literal's variable.
+pub(crate) fn index_of(literal: i32) -> usize
     requires { 0 < variable literal }
-    ensures { result ≡ place literal }
+    ensures { result ≡ index literal }
 {
     (literal.unsigned_abs() - 1) as usize
 }
@@ -30,5 +30,5 @@ pub(crate) fn row_of(literal: i32) -> usize
     ensures row { result ≡ row literal }
     ensures within { result < LITERAL_ROWS }
 {
-    2 * place_of(literal) + usize::from(literal < 0)
+    2 * index_of(literal) + usize::from(literal < 0)
 }

@@ -22,7 +22,7 @@ pub(crate) struct Node {
 /// For each literal the numbers of the clauses in which it occurs, as a chain of nodes.
 #[derive(Debug, Drop)]
 pub(crate) struct Occurrences {
-    /// The head of each literal's chain: 0 where it is empty, else the place of its newest node, from 1.
+    /// The head of each literal's chain: 0 where it is empty, else the number of its newest node, from 1.
     heads: [u16; LITERAL_ROWS],
     /// The nodes in use are the first ones, each newer than those before it.
     nodes: [Node; TABLE_PLACES],

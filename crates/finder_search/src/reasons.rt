@@ -6,7 +6,7 @@ ghost use Rattle.clause_tables.specs.Entries.{as_entry};
 ghost use Rattle.finder_search.specs.VariableSets.{has};
 ghost use Rattle.finder_search.specs.Reasons.{IsJoined, IsReason, IsUnion, is_number};
 
-use crate::literals::place_of;
+use crate::literals::index_of;
 use crate::trail::Slot;
 use crate::variable_sets::VariableSet;
 use clause_tables::{Clause, ClauseKind};
@@ -32,13 +32,13 @@ impl Reason {
     }
 
     /// The decision of this variable alone.
-    pub(crate) fn decision(place: usize) -> Reason
-        requires { place < MOST_VARIABLES }
-        ensures decisions { (v : ℕ) → has result.decisions v ≡ (place == v) }
+    pub(crate) fn decision(index: usize) -> Reason
+        requires { index < MOST_VARIABLES }
+        ensures decisions { (v : ℕ) → has result.decisions v ≡ (index == v) }
         ensures softs { (k : ℕ) → member result.softs k ≡ false }
     {
         Reason {
-            decisions: VariableSet::empty().insert(place),
+            decisions: VariableSet::empty().insert(index),
             softs: SoftSet::empty(),
         }
     }
@@ -66,8 +66,8 @@ impl Reason {
     {
         let mut reason = Reason::of_kind(clause.kind);
         for &literal in clause.literals {
-            let place = place_of(literal);
-            reason = reason.union(trail[place].reason(place));
+            let index = index_of(literal);
+            reason = reason.union(trail[index].reason(index));
         }
         reason
     }
@@ -82,13 +82,13 @@ impl Reason {
     }
 
     /// Both together, but for the decision of this variable.
-    pub(crate) fn joined(self, other: Reason, place: usize) -> Reason
-        requires { place < MOST_VARIABLES }
-        ensures { IsJoined self other place result }
+    pub(crate) fn joined(self, other: Reason, index: usize) -> Reason
+        requires { index < MOST_VARIABLES }
+        ensures { IsJoined self other index result }
     {
         let both = self.union(other);
         Reason {
-            decisions: both.decisions.remove(place),
+            decisions: both.decisions.remove(index),
             softs: both.softs,
         }
     }

@@ -4,7 +4,7 @@ ghost use Rattle.std.specs.Prelude.{◌≡◌, ◌+◌, ◌<◌, ◌≤◌, fals
 ghost use Rattle.terms.specs.Clauses.{bad_literal, variable};
 ghost use Rattle.finder_search.specs.Trail.{Unassigned};
 
-use crate::literals::{LITERAL_ROWS, place_of, row_of};
+use crate::literals::{LITERAL_ROWS, index_of, row_of};
 use crate::trail::Slot;
 use terms::limits::MOST_VARIABLES;
 
@@ -51,7 +51,7 @@ impl Scores {
     {
         let left = clause
             .iter()
-            .filter(|literal| trail[place_of(**literal)].is_unset())
+            .filter(|literal| trail[index_of(**literal)].is_unset())
             .count();
         let weight = weight(left, clause.len());
         self.clauses = self.clauses.saturating_add(1);
@@ -73,12 +73,12 @@ impl Scores {
     {
         let mut best = fallback;
         let mut most = 0_u64;
-        for (place, slot) in trail.iter().enumerate() {
+        for (index, slot) in trail.iter().enumerate() {
             if slot.is_unset() {
-                let value = self.value(place);
+                let value = self.value(index);
                 if value > most {
                     most = value;
-                    best = self.literal(place);
+                    best = self.literal(index);
                 }
             }
         }
@@ -86,27 +86,27 @@ impl Scores {
     }
 
     /// How much it would do to split on the variable.
-    fn value(&self, place: usize) -> u64
-        requires { place < MOST_VARIABLES }
+    fn value(&self, index: usize) -> u64
+        requires { index < MOST_VARIABLES }
     {
-        let (positive, negative) = self.of_variable(place);
+        let (positive, negative) = self.of_variable(index);
         (u64::from(positive) + 1).saturating_mul(u64::from(negative) + 1)
     }
 
     /// The scores of the variable's two literals.
-    fn of_variable(&self, place: usize) -> (u32, u32)
-        requires { place < MOST_VARIABLES }
+    fn of_variable(&self, index: usize) -> (u32, u32)
+        requires { index < MOST_VARIABLES }
     {
-        (self.rows[2 * place], self.rows[2 * place + 1])
+        (self.rows[2 * index], self.rows[2 * index + 1])
     }
 
     /// The literal with the greater score; the positive one too where the other's is far greater, as it implies much then.
-    fn literal(&self, place: usize) -> i32
-        requires { place < MOST_VARIABLES }
-        ensures { variable result ≡ place + 1 }
+    fn literal(&self, index: usize) -> i32
+        requires { index < MOST_VARIABLES }
+        ensures { variable result ≡ index + 1 }
     {
-        let literal = place as i32 + 1;
-        let (positive, negative) = self.of_variable(place);
+        let literal = index as i32 + 1;
+        let (positive, negative) = self.of_variable(index);
         let implies_more = positive > 0 && positive < negative / FAR_MORE;
         if positive >= negative || implies_more {
             literal

@@ -8,7 +8,7 @@ ghost use Rattle.finder_search.specs.Splitting.{JustDecided, Next, OpenIn, Ready
 ghost use Rattle.finder_search.specs.Trail.{Extends, Unassigned};
 
 use crate::clause_status::{ClauseStatus, status_of};
-use crate::literals::{opposite, place_of};
+use crate::literals::{index_of, opposite};
 use crate::order::{is_short, short_first};
 use crate::question::Question;
 use crate::reasons::Reason;
@@ -75,25 +75,25 @@ impl Question<'_> {
         ensures same { trail.new ≡ trail.old }
         ensures answer { Solved (query self.now) trail.old buffer.old result buffer.new }
     {
-        let place = place_of(literal);
+        let index = index_of(literal);
         let Err(first) = self.try_literal(literal, trail, buffer, level, order) else {
             return Ok(());
         };
-        if !first.decisions.has(place) {
+        if !first.decisions.has(index) {
             return Err(first);
         }
         let Err(second) = self.try_opposite(literal, trail, buffer, level, order) else {
             return Ok(());
         };
-        if !second.decisions.has(place) {
+        if !second.decisions.has(index) {
             return Err(second);
         }
-        Err(first.joined(second, place))
+        Err(first.joined(second, index))
     }
 
     /// Solves it with the literal false.
     #[cycle(trying)]
-    #[tactic(auto, using(crate::proofs::LiteralLaws::place_negated, crate::proofs::LiteralLaws::positive_negated, crate::proofs::LiteralLaws::bad_negated))]
+    #[tactic(auto, using(crate::proofs::LiteralLaws::index_negated, crate::proofs::LiteralLaws::positive_negated, crate::proofs::LiteralLaws::bad_negated))]
     fn try_opposite(
         &self,
         literal: i32,
@@ -173,12 +173,12 @@ impl Question<'_> {
         let mut scores = Scores::new();
         let mut open = None;
         let mut met = 0;
-        for place in 0..order.len() {
-            let Some(clause) = self.tables.clause(usize::from(order[place])) else {
+        for index in 0..order.len() {
+            let Some(clause) = self.tables.clause(usize::from(order[index])) else {
                 continue;
             };
             let Some(literal) = self.open_literal(clause, trail) else {
-                order.swap(met, place);
+                order.swap(met, index);
                 met += 1;
                 continue;
             };

@@ -1,11 +1,11 @@
 //! How each variable stands while a search is on.
 ghost use Rattle.std.specs.Prelude.{◌≡◌, ℕ, ◌<◌, false, not, slice_set, length, map};
 ghost use Rattle.terms.specs.Masks.{member};
-ghost use Rattle.finder_search.specs.Literals.{place, positive};
+ghost use Rattle.finder_search.specs.Literals.{index, positive};
 ghost use Rattle.finder_search.specs.Trail.{Unassigned, byte_of, is_deeper, is_unset, rests_on_decision, rests_on_soft, undone, value_of};
 ghost use Rattle.finder_search.specs.VariableSets.{has};
 
-use crate::literals::place_of;
+use crate::literals::index_of;
 use crate::reasons::Reason;
 use terms::limits::MOST_VARIABLES;
 
@@ -44,15 +44,15 @@ impl Slot {
         u8::from(self.value() == Some(true))
     }
 
-    /// What it rests on that the variable, at this place, has its value.
-    pub(crate) fn reason(self, place: usize) -> Reason
-        requires { place < MOST_VARIABLES }
-        ensures decisions { (v : ℕ) → has result.decisions v ≡ rests_on_decision self place v }
+    /// What it rests on that the variable, at this index, has its value.
+    pub(crate) fn reason(self, index: usize) -> Reason
+        requires { index < MOST_VARIABLES }
+        ensures decisions { (v : ℕ) → has result.decisions v ≡ rests_on_decision self index v }
         ensures softs { (k : ℕ) → member result.softs k ≡ rests_on_soft self k }
     {
         match self {
             Slot::Unset => Reason::none(),
-            Slot::Decided(_, _) => Reason::decision(place),
+            Slot::Decided(_, _) => Reason::decision(index),
             Slot::Implied(_, _, reason) => reason,
         }
     }
@@ -80,17 +80,17 @@ impl Slot {
 /// Makes the literal true by decision.
 pub(crate) fn decide(trail: &mut [Slot], literal: i32, level: u16)
     requires { Unassigned trail.old literal }
-    ensures { trail.new ≡ slice_set trail.old (place literal) (Slot.Decided (positive literal) level) }
+    ensures { trail.new ≡ slice_set trail.old (index literal) (Slot.Decided (positive literal) level) }
 {
-    trail[place_of(literal)] = Slot::Decided(literal > 0, level);
+    trail[index_of(literal)] = Slot::Decided(literal > 0, level);
 }
 
 /// Makes the literal true for this reason.
 pub(crate) fn imply(trail: &mut [Slot], literal: i32, level: u16, reason: Reason)
     requires { Unassigned trail.old literal }
-    ensures { trail.new ≡ slice_set trail.old (place literal) (Slot.Implied (positive literal) level reason) }
+    ensures { trail.new ≡ slice_set trail.old (index literal) (Slot.Implied (positive literal) level reason) }
 {
-    trail[place_of(literal)] = Slot::Implied(literal > 0, level, reason);
+    trail[index_of(literal)] = Slot::Implied(literal > 0, level, reason);
 }
 
 /// A trial. However it ends, variables that were set deeper than its level are unset then, and no others.
@@ -117,7 +117,7 @@ pub(crate) fn write_model(trail: &[Slot], buffer: &mut [u8])
     requires { length buffer.old ≡ length trail.now }
     ensures { buffer.new ≡ map byte_of trail.now }
 {
-    for (place, slot) in trail.iter().enumerate() {
-        buffer[place] = slot.byte();
+    for (index, slot) in trail.iter().enumerate() {
+        buffer[index] = slot.byte();
     }
 }

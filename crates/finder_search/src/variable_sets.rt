@@ -7,10 +7,10 @@ ghost use Rattle.finder_search.specs.VariableSets.{has};
 use terms::SoftSet;
 use terms::limits::{MOST_VARIABLES, SOFT_PLACES};
 
-/// The parts of a set of variables. Each is a `SoftSet`, and has as many places as one.
+/// The parts of a set of variables. Each is a `SoftSet`, and has as many numbers as one.
 const PARTS: usize = MOST_VARIABLES / SOFT_PLACES;
 
-/// A set of variables by their places.
+/// A set of variables by their indices.
 #[derive(Clone, Copy, PartialEq, Eq, Debug)]
 pub(crate) struct VariableSet {
     parts: [SoftSet; PARTS],
@@ -25,28 +25,28 @@ impl VariableSet {
         }
     }
 
-    pub(crate) fn has(self, place: usize) -> bool
-        requires { place < MOST_VARIABLES }
-        ensures { result ≡ has self place }
+    pub(crate) fn has(self, index: usize) -> bool
+        requires { index < MOST_VARIABLES }
+        ensures { result ≡ has self index }
     {
-        self.parts[place / SOFT_PLACES].has(place % SOFT_PLACES)
+        self.parts[index / SOFT_PLACES].has(index % SOFT_PLACES)
     }
 
-    pub(crate) fn insert(self, place: usize) -> VariableSet
-        requires { place < MOST_VARIABLES }
-        ensures { (v : ℕ) → has result v ≡ (has self v || place == v) }
+    pub(crate) fn insert(self, index: usize) -> VariableSet
+        requires { index < MOST_VARIABLES }
+        ensures { (v : ℕ) → has result v ≡ (has self v || index == v) }
     {
         let mut parts = self.parts;
-        parts[place / SOFT_PLACES] = parts[place / SOFT_PLACES].insert(place % SOFT_PLACES);
+        parts[index / SOFT_PLACES] = parts[index / SOFT_PLACES].insert(index % SOFT_PLACES);
         VariableSet { parts }
     }
 
-    pub(crate) fn remove(self, place: usize) -> VariableSet
-        requires { place < MOST_VARIABLES }
-        ensures { (v : ℕ) → has result v ≡ (has self v && not (place == v)) }
+    pub(crate) fn remove(self, index: usize) -> VariableSet
+        requires { index < MOST_VARIABLES }
+        ensures { (v : ℕ) → has result v ≡ (has self v && not (index == v)) }
     {
         let mut parts = self.parts;
-        parts[place / SOFT_PLACES] = parts[place / SOFT_PLACES].remove(place % SOFT_PLACES);
+        parts[index / SOFT_PLACES] = parts[index / SOFT_PLACES].remove(index % SOFT_PLACES);
         VariableSet { parts }
     }
 
@@ -54,8 +54,8 @@ impl VariableSet {
         ensures { (v : ℕ) → has result v ≡ (has self v || has other v) }
     {
         let mut parts = self.parts;
-        for place in 0..PARTS {
-            parts[place] = parts[place].union(other.parts[place]);
+        for index in 0..PARTS {
+            parts[index] = parts[index].union(other.parts[index]);
         }
         VariableSet { parts }
     }

@@ -15,7 +15,7 @@ use Rattle.weights.specs.Kinds.{Kind}
 -- the field of the first bad literal, where the literals begin at a field; 0, the whole line, where none is bad
 abbrev pub bad_field : ℕ → Option ℕ → ℕ
 bad_field first None = 0
-bad_field first (Some place) = first + place
+bad_field first (Some index) = first + index
 
 -- the field that a refused clause names, where its literals begin at a field
 abbrev pub clause_field : ℕ → ℕ → List ℤ → Refusal → ℕ

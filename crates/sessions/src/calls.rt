@@ -54,7 +54,7 @@ fn clause_field(first: usize, n: usize, clause: &[i32], refusal: Refusal) -> usi
     ensures { result ≡ clause_field first n clause.now refusal }
 {
     match refusal {
-        Refusal::BadLiteral => first_bad_literal(clause, n).map_or(0, |place| first + place),
+        Refusal::BadLiteral => first_bad_literal(clause, n).map_or(0, |index| first + index),
         Refusal::ZeroWeight | Refusal::TotalNotHeld => 2,
         _ => 0,
     }

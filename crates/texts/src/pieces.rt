@@ -86,13 +86,13 @@ pub(crate) fn cut_at(bytes: &[u8], by: u8) -> Option<(&[u8], &[u8])>
     ensures parts { option_map (λ r. (r.0.now, r.1.now)) result ≡ cut by bytes.now }
     ensures shorter { IfSome result (λ r. length r.1.now + 1 ≤ length bytes.now) }
 {
-    let place = place_of(by, bytes)?;
-    Some((&bytes[..place], &bytes[place + 1..]))
+    let index = index_of(by, bytes)?;
+    Some((&bytes[..index], &bytes[index + 1..]))
 }
 
-/// The place of the first byte `by`.
-fn place_of(by: u8, bytes: &[u8]) -> Option<usize>
-    ensures place { result ≡ position (λ b. b == by) bytes.now }
+/// The index of the first byte `by`.
+fn index_of(by: u8, bytes: &[u8]) -> Option<usize>
+    ensures index { result ≡ position (λ b. b == by) bytes.now }
     ensures within { IfSome result (λ k. k < length bytes.now) }
 {
     bytes.iter().position(|byte| *byte == by)

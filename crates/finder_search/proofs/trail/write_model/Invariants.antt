@@ -3,5 +3,5 @@ use Rattle.finder_search.specs.Trail.{byte_of}
 use Rattle.finder_search.proofs.trail.write_model.Given as goal
 
 -- the values so far
-abbrev pub invariant-loop-place : goal.invariant-loop-place
-invariant-loop-place l = take l.place l.buffer ≡ map byte_of (take l.place l.trail)
+abbrev pub invariant-loop-index : goal.invariant-loop-index
+invariant-loop-index l = take l.index l.buffer ≡ map byte_of (take l.index l.trail)

@@ -1,11 +1,11 @@
 use Rattle.std.proofs.Common.{◌≡◌, false, not, ◌∙◌, subst, refl, arith, rules}
 use Rattle.std.proofs.lemmas.Int.{to_z-of_z}
-use Rattle.finder_search.specs.Literals.{place, positive}
+use Rattle.finder_search.specs.Literals.{index, positive}
 use Rattle.finder_search.specs.Splitting.{Answers}
 use Rattle.finder_search.specs.Trail.{decisions}
 use Rattle.finder_search.specs.VariableSets.{has}
 use Rattle.finder_search.proofs.Branching.{excludes_unused, excludes_both}
-use Rattle.finder_search.proofs.Deciding.{opposite_decision, unassigned_room, unassigned_place, decided_decisions, decided_fewer, just_decided, all_restored, propagated_ready}
+use Rattle.finder_search.proofs.Deciding.{opposite_decision, unassigned_room, unassigned_index, decided_decisions, decided_fewer, just_decided, all_restored, propagated_ready}
 use Rattle.finder_search.specs.Question.{query}
 use Rattle.finder_search.specs.Reasons.{IsJoined}
 use Rattle.finder_search.proofs.question.Question.+trying.Goals as goal
@@ -44,8 +44,8 @@ propagate_decision-try_next-requires t c =
 pub split-returns-then-not-has-clause-answer : goal.split-returns-then-not-has-clause-answer
 split-returns-then-not-has-clause-answer t c =
     let u = c.args.literal in
-    let unused : has c.in-Err.first.decisions (place u) ≡ false = search rules in (
-      excludes_unused (query c.args.self.now) (decisions c.args.trail.now) (place u) (unassigned_place c.args.trail.now u c.requires.unassigned.0) (positive u) c.in-Err.first unused
+    let unused : has c.in-Err.first.decisions (index u) ≡ false = search rules in (
+      excludes_unused (query c.args.self.now) (decisions c.args.trail.now) (index u) (unassigned_index c.args.trail.now u c.requires.unassigned.0) (positive u) c.in-Err.first unused
           (simp (to_z-of_z, c.ranges.literal) at c.in-Err.ensures.answer.0),
       c.in-Err.ensures.answer.1,
     )
@@ -53,9 +53,9 @@ split-returns-then-not-has-clause-answer t c =
 pub split-returns-then-not-has-2-clause-answer : goal.split-returns-then-not-has-2-clause-answer
 split-returns-then-not-has-2-clause-answer t c =
     let u = c.args.literal in
-    let unused : has c.in-Err-try_opposite.second.decisions (place u) ≡ false = search rules in
+    let unused : has c.in-Err-try_opposite.second.decisions (index u) ≡ false = search rules in
     let again = simp (to_z-of_z, c.ranges.literal, c.try_literal.ensures.same, opposite_decision c.args.trail.now u c.requires.unassigned.0) at c.in-Err-try_opposite.ensures.answer.0 in (
-      excludes_unused (query c.args.self.now) (decisions c.args.trail.now) (place u) (unassigned_place c.args.trail.now u c.requires.unassigned.0) (not (positive u))
+      excludes_unused (query c.args.self.now) (decisions c.args.trail.now) (index u) (unassigned_index c.args.trail.now u c.requires.unassigned.0) (not (positive u))
           c.in-Err-try_opposite.second unused again,
       c.in-Err-try_opposite.ensures.answer.1 ∙ c.in-Err.ensures.answer.1,
     )
@@ -63,11 +63,11 @@ split-returns-then-not-has-2-clause-answer t c =
 pub split-returns-clause-answer : goal.split-returns-clause-answer
 split-returns-clause-answer t c =
     let u = c.args.literal in
-    let placed : c.place_of-place.result ≡ place u = search rules in
+    let index_is : c.index_of-index.result ≡ index u = search rules in
     let again = simp (to_z-of_z, c.ranges.literal, c.try_literal.ensures.same, opposite_decision c.args.trail.now u c.requires.unassigned.0) at c.in-Err-try_opposite.ensures.answer.0 in (
-      excludes_both (query c.args.self.now) (decisions c.args.trail.now) (place u) (unassigned_place c.args.trail.now u c.requires.unassigned.0) (positive u) (not (positive u))
+      excludes_both (query c.args.self.now) (decisions c.args.trail.now) (index u) (unassigned_index c.args.trail.now u c.requires.unassigned.0) (positive u) (not (positive u))
           c.in-Err.first c.in-Err-try_opposite.second c.joined.result refl
-          (subst (λ p. IsJoined c.in-Err.first c.in-Err-try_opposite.second p c.joined.result) placed c.joined.ensures)
+          (subst (λ p. IsJoined c.in-Err.first c.in-Err-try_opposite.second p c.joined.result) index_is c.joined.ensures)
           (simp (to_z-of_z, c.ranges.literal) at c.in-Err.ensures.answer.0) again,
       c.in-Err-try_opposite.ensures.answer.1 ∙ c.in-Err.ensures.answer.1,
     )

@@ -2,5 +2,5 @@ use Rattle.finder_search.specs.Trail.{Unassigned}
 use Rattle.finder_search.proofs.scores.Scores.best.Given as goal
 
 -- the best so far is of an unset variable
-abbrev pub invariant-loop-place : goal.invariant-loop-place
-invariant-loop-place l = Unassigned l.trail l.best
+abbrev pub invariant-loop-index : goal.invariant-loop-index
+invariant-loop-index l = Unassigned l.trail l.best
