@@ -18,14 +18,21 @@ abbrev pub kept_admitted_by : {V : Type 0} → FinderMeaning → Option (Plan V)
 kept_admitted_by f None = true
 kept_admitted_by f (Some p) = admitted_by f p.values
 
--- where the answer is a model, the finder admits the assignment in the first n bytes
-abbrev pub AdmittedModel : FinderMeaning → Answer → List ℕ → Type 0
-AdmittedModel f answer bytes = answer ≡ Model → IsTrue (admitted_by f (take f.n bytes))
+-- the finder admits the assignment in the first n bytes
+abbrev pub AdmitsFront : FinderMeaning → List ℕ → Type 0
+AdmitsFront f bytes = IsTrue (admitted_by f (take f.n bytes))
+
+-- the same where the answer is a model
+abbrev pub AdmitsModel : FinderMeaning → Answer → List ℕ → Type 0
+AdmitsModel f answer bytes = answer ≡ Model → AdmitsFront f bytes
 
 -- the first n bytes at their cost
 abbrev pub plan : {W : Type 0} (K : Kind W) → ℕ → Option (Kept W) → Option (Plan K.V)
 plan K n None = None
 plan K n (Some kept) = Some (record { values = take n kept.values; cost = K.value kept.cost })
+
+abbrev pub AdmitsKept : {W : Type 0} → Kind W → FinderMeaning → Option (Kept W) → Type 0
+AdmitsKept K f kept = IsTrue (kept_admitted_by f (plan K f.n kept))
 
 -- the weight is what the assignment in the first n bytes costs
 abbrev pub Costs : {W : Type 0} (K : Kind W) → State K → List ℕ → W → Type 0
@@ -33,7 +40,7 @@ Costs K s bytes w = K.value w ≡ (priced s (take s.finder.n bytes)).cost
 
 -- what is kept, with its cost worked out anew
 abbrev pub PricedAnew : {W : Type 0} (K : Kind W) → State K → Option (Kept W) → Type 0
-PricedAnew K s kept = (plan K s.finder.n kept ≡ (repriced s).kept) × IsTrue (kept_admitted_by s.finder (plan K s.finder.n kept))
+PricedAnew K s kept = (plan K s.finder.n kept ≡ (repriced s).kept) × AdmitsKept K s.finder kept
 
 -- what is kept costs that
 abbrev pub is_ceiling : {W : Type 0} (K : Kind W) → K.V → Option (Plan K.V) → Bool

@@ -1,8 +1,8 @@
 //! A job on fresh parts: what it keeps, and what it tells.
-ghost use Rattle.std.specs.Prelude.{◌≡◌, length, take, true, IsTrue, IfOk, None};
+ghost use Rattle.std.specs.Prelude.{◌≡◌, length, IsTrue, IfOk, None};
 ghost use Rattle.std.specs.Result.{result_err};
 ghost use Rattle.bracket.specs.States.{opened_on, status, are_fresh};
-ghost use Rattle.jobs.specs.Plans.{Costs, admitted_by, kept_admitted_by, plan};
+ghost use Rattle.jobs.specs.Plans.{AdmitsFront, AdmitsKept, Costs, plan};
 
 mod clauses;
 mod rounds;
@@ -26,7 +26,7 @@ pub(crate) struct Play<F: Finder, C: CoverMaker> {
     // Each soft clause has its weight.
     ghost paired: { length (C.CoverMaker.meaning maker).weights ≡ length (F.Finder.meaning finder).softs },
     // The finder admits what is kept.
-    ghost admitted: { IsTrue (kept_admitted_by (F.Finder.meaning finder) (plan C.Weight.kind (F.Finder.meaning finder).n kept)) },
+    ghost admitted: { AdmitsKept C.Weight.kind (F.Finder.meaning finder) kept },
 }
 
 /// An assignment, in the first n bytes, with its cost.
@@ -87,7 +87,7 @@ impl<F: Finder, C: CoverMaker> Play<F, C> {
     /// What an assignment costs.
     #[tactic(auto, using(crate::proofs::Calls::cost_laws))]
     fn cost_of(&self, values: &[u8; MOST_VARIABLES]) -> Result<C::Weight, Refusal>
-        requires { IsTrue (admitted_by (state self.now).finder (take (state self.now).finder.n values.now)) }
+        requires { AdmitsFront (state self.now).finder values.now }
         ensures refusal { result_err result ≡ None }
         ensures cost { IfOk result (Costs C.Weight.kind (state self.now) values.now) }
     {

@@ -1,15 +1,13 @@
 //! How a job plays rounds.
-ghost use Rattle.std.specs.Prelude.{◌≡◌, length, take, true, IsTrue, IfOk, None};
+ghost use Rattle.std.specs.Prelude.{◌≡◌, length, IfOk, None};
 ghost use Rattle.std.specs.Result.{result_err};
-ghost use Rattle.terms.specs.Earliest.{Changes};
 ghost use Rattle.terms.specs.Masks.{Below};
 ghost use Rattle.finders.specs.Questions.{Asked};
-ghost use Rattle.bracket.specs.Changes.{after_model};
 ghost use Rattle.bracket.specs.States.{status};
-ghost use Rattle.bracket.specs.Steps.{Round, Takes, Outside, Asks};
+ghost use Rattle.bracket.specs.Steps.{Round, Outside, Asks};
 ghost use Rattle.bracket.specs.declared.states.Status.TheVariants.{Open, Unasked};
-ghost use Rattle.jobs.specs.Answers.{after_first, answer_refused, after_answer};
-ghost use Rattle.jobs.specs.Plans.{AdmittedModel, admitted_by, is_ceiling};
+ghost use Rattle.jobs.specs.Answers.{after_first, answer_refused, keeping, TakesAnswer, TakesCover};
+ghost use Rattle.jobs.specs.Plans.{AdmitsFront, AdmitsModel, is_ceiling};
 
 use super::{Kept, Play};
 use bracket::{Phase, Status};
@@ -49,7 +47,7 @@ impl<F: Finder, C: CoverMaker> Play<F, C> {
         answer: Answer,
         values: [u8; MOST_VARIABLES],
     ) -> Result<(), Refusal>
-        requires { AdmittedModel (state self.old).finder answer values }
+        requires { AdmitsModel (state self.old).finder answer values }
         ensures refusal { result_err result ≡ None }
         ensures state { state self.new ≡ after_first (state self.old) answer values }
     {
@@ -112,9 +110,9 @@ impl<F: Finder, C: CoverMaker> Play<F, C> {
         answer: Answer,
         values: [u8; MOST_VARIABLES],
     ) -> Result<(), Refusal>
-        requires { AdmittedModel (state self.old).finder answer values }
+        requires { AdmitsModel (state self.old).finder answer values }
         ensures refusal { result_err result ≡ answer_refused (state self.old) answer }
-        ensures state { Changes result (λ s. after_answer s (C.Weight.kind.value floor) answer values) (state self.old) (state self.new) }
+        ensures state { TakesAnswer (state self.old) (C.Weight.kind.value floor) answer values result (state self.new) }
     {
         match (self.phase, answer) {
             (Phase::Quick, Answer::Model) => {
@@ -135,7 +133,7 @@ impl<F: Finder, C: CoverMaker> Play<F, C> {
     /// The cover that the next round takes, and the floor that it has by then.
     fn take_cover(&self) -> Result<(SoftSet, C::Weight), Refusal>
         ensures refusal { result_err result ≡ None }
-        ensures takes { IfOk result (λ t. Takes (state self.now) (state self.now).phase t.0 (C.Weight.kind.value t.1)) }
+        ensures takes { IfOk result (TakesCover (state self.now)) }
     {
         match self.phase {
             Phase::Quick => Ok((self.maker.cover(), self.floor)),
@@ -155,9 +153,9 @@ impl<F: Finder, C: CoverMaker> Play<F, C> {
 
     /// Keeps the assignment where none is kept, or only a dearer one.
     fn keep(&mut self, values: [u8; MOST_VARIABLES]) -> Result<(), Refusal>
-        requires { IsTrue (admitted_by (state self.old).finder (take (state self.old).finder.n values)) }
+        requires { AdmitsFront (state self.old).finder values }
         ensures refusal { result_err result ≡ None }
-        ensures kept { state self.new ≡ after_model (state self.old) (take (state self.old).finder.n values) (state self.old).phase }
+        ensures kept { state self.new ≡ keeping (state self.old) values }
     {
         let cost = self.cost_of(&values)?;
         if self.kept.is_none_or(|kept| cost < kept.cost) {
