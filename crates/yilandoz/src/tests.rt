@@ -82,6 +82,30 @@ fn limits_of_a_clause_and_of_the_tables(rt: HostRuntime) -> Result<(), Fail> {
     Ok(())
 }
 
+// Of twelve options no five can be had together: there are 792 such sets, and each is a core that the floor needs.
+#[test]
+fn a_round_without_a_place_for_its_core_is_refused(rt: HostRuntime) -> Result<(), Fail> {
+    let mut text = format!(in rt.alloc(); "j\t12\tp\n")?;
+    for option in 1..=12 {
+        writeln!(text, "s\t1\t{option}")?;
+    }
+    for a in 1..=12 {
+        for b in 1..a {
+            for c in 1..b {
+                for d in 1..c {
+                    for e in 1..d {
+                        writeln!(text, "h\t-{a}\t-{b}\t-{c}\t-{d}\t-{e}")?;
+                    }
+                }
+            }
+        }
+    }
+    writeln!(text, "r\t65535\nr\t1")?;
+    let output = printed(&rt, text.as_bytes())?;
+    assert!(rt; output.as_str() == "x\t806\t0\tc\t18\nx\t807\t0\tc\t18\n");
+    Ok(())
+}
+
 /// Gives or takes so many bytes more, and then no longer goes on.
 #[derive(Drop)]
 struct Breaking {
