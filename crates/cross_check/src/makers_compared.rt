@@ -63,5 +63,5 @@ where
     if outcome.is_err() {
         pair.show(rt)?;
     }
-    Ok(outcome?)
+    outcome
 }

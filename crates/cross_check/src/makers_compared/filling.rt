@@ -1,9 +1,9 @@
 //! Fills a pair of makers with weights and cores that are drawn.
 use super::pair::Pair;
 use super::taken::{Costs, Taken};
-use crate::faults::Fault;
 use crate::tally::{Outcome, Tally};
 use crate::weighing::{Drawn, Spread, draw_weight};
+use anyhow::{Context, Result};
 use makers::CoverMaker;
 use random::Xorshift;
 use std::alloc::AllocError;
@@ -50,7 +50,7 @@ pub(crate) fn fill<R: CoverMaker, T: CoverMaker<Weight = R::Weight>>(
     random: &mut Xorshift,
     tally: &mut Tally,
     number: usize,
-) -> Result<(), Fault>
+) -> Result<()>
 where
     R::Weight: Drawn,
 {
@@ -58,17 +58,20 @@ where
     for weights in outline.weights {
         for _ in 0..weights {
             let weight = draw_weight(random, outline.spread);
-            let refusal = pair.add_weight(weight)?;
+            let outcome = pair.add_weight(weight);
+            let refusal = outcome.context(format_args!("the weight {weight}"))?;
             count(tally, refusal, Outcome::WeightAdded)?;
         }
         for _ in 0..outline.cores {
             let core = draw_core(random, outline.longest, &pair.taken);
-            let refusal = pair.add_core(core)?;
+            let outcome = pair.add_core(core);
+            let refusal = outcome.context(format_args!("the core {core:?}"))?;
             count(tally, refusal, Outcome::CoreAdded)?;
         }
         for _ in 0..4 {
             let set = draw_set(random, given(&pair.taken));
-            let refusal = pair.compare_cost(set)?;
+            let outcome = pair.compare_cost(set);
+            let refusal = outcome.context(format_args!("the cost of {set:?}"))?;
             count(tally, refusal, Outcome::CostTold)?;
         }
         let (counted, branched) = pair.compare_covers()?;
