@@ -5,6 +5,10 @@
 #[cfg(test)]
 mod clauses;
 #[cfg(test)]
+mod covers;
+#[cfg(test)]
+mod lines;
+#[cfg(test)]
 mod refusals;
 #[cfg(test)]
 mod sets;

@@ -15,7 +15,7 @@ pub use branch_and_bound::BranchAndBoundMaker;
 
 #[cfg(test)]
 mod tests {
-    // What no clause says: which quick cover comes, and what a search tries first.
+    // What no clause says: what a search tries first.
     use super::*;
     use branches::Branch;
     use loads::Loads;
@@ -46,28 +46,6 @@ mod tests {
                 .map_err(|_| "a core is refused")?;
         }
         Ok(maker)
-    }
-
-    // Number 0 costs least for each core that it meets. With 4, it comes to 80, and what is left without it to 68.
-    #[test]
-    fn a_quick_cover_spares_the_heaviest_first(rt: HostRuntime) -> Result<(), Fail> {
-        let cores: [&[usize]; 4] = [&[0, 1], &[0, 2], &[0, 3], &[1, 4]];
-        let heavy = maker(rt.alloc(), &[50, 34, 17, 17, 30], &cores)?;
-        assert_eq!(rt; heavy.cover(), SoftSet::of(&[1, 2, 3]));
-        let forced: [&[usize]; 4] = [&[3], &[2, 4], &[1, 2], &[0, 4]];
-        let forced = maker(rt.alloc(), &[9, 9, 1, 50, 1], &forced)?;
-        assert_eq!(rt; forced.cover(), SoftSet::of(&[2, 3, 4]));
-        Ok(())
-    }
-
-    // Number 3 meets both cores for 3; number 2 does for 4, and so do 0 and 1 together.
-    #[test]
-    fn a_quick_cover_takes_what_meets_most_cores_for_its_weight(
-        rt: HostRuntime,
-    ) -> Result<(), Fail> {
-        let maker = maker(rt.alloc(), &[2, 2, 4, 3], &[&[0, 2, 3], &[1, 2, 3]])?;
-        assert_eq!(rt; maker.cover(), SoftSet::of(&[3]));
-        Ok(())
     }
 
     // The numbers 5 and 7 are not heavy. The core {0, 1} is met, and of {4, 7} only 4 is left. The scores of what is left of
