@@ -1,5 +1,5 @@
 -- How clauses and answers change a state, and what a clause is refused for.
-use Rattle.std.specs.Prelude.{ℕ, true, not, if◌then◌else◌, List, [], ◌∷◌, ℤ, Some, None, Option, option_map, ◌==◌}
+use Rattle.std.specs.Prelude.{ℕ, true, if◌then◌else◌, List, ℤ, Some, None, Option, option_map}
 use Rattle.std.specs.List.{zip}
 use Rattle.terms.specs.Clauses.{satisfied_by}
 use Rattle.terms.specs.Earliest.{earlier}

@@ -1,5 +1,5 @@
 -- What the tables of a finder show, what that means, and how a clause more changes it.
-use Rattle.std.specs.Prelude.{ℕ, ◌-◌, min, Bool, false, List, [], ◌∷◌, ◌++◌, length, ℤ, Option}
+use Rattle.std.specs.Prelude.{ℕ, ◌-◌, min, List, [], ◌∷◌, ◌++◌, length, ℤ, Option}
 use Rattle.terms.specs.declared.refusals.Refusal.{Refusal}
 use Rattle.finders.specs.Meanings.{FinderMeaning, fresh, with_hard, with_soft}
 use Rattle.finders.specs.Refused.{hard_refused, soft_refused}

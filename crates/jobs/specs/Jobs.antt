@@ -1,5 +1,5 @@
 -- What a job means.
-use Rattle.std.specs.Prelude.{false, None}
+use Rattle.std.specs.Prelude.{false}
 use Rattle.bracket.specs.States.{State, opened_on}
 use Rattle.jobs.specs.Plays.{state as played}
 use Rattle.jobs.specs.declared.job.Job.{Job}

@@ -1,5 +1,5 @@
 -- Laws of masks, for sets of any width.
-use Rattle.std.proofs.Common.{◌≡◌, ℕ, zero, suc, ◌+◌, ◌-◌, ◌/◌, ◌^◌, ◌<◌, ◌≤◌, true, false, not, ◌&&◌, ◌||◌, bit_and, bit_or, bit_xor, eqb, ltb, Decides, refl, ap, arith, pow_pos, pow_mono}
+use Rattle.std.proofs.Common.{◌≡◌, ℕ, zero, suc, ◌+◌, ◌-◌, ◌/◌, ◌^◌, ◌<◌, ◌≤◌, true, false, not, ◌&&◌, ◌||◌, bit_and, bit_or, bit_xor, eqb, ltb, Decides, refl, ap, ◌∙◌, arith, pow_pos, pow_mono}
 use Rattle.std.specs.Int.{bit_at}
 use Rattle.std.specs.Int.Bits.{xor_add_and}
 use Rattle.std.specs.Int.Count.{ones, ones_step}
@@ -8,7 +8,7 @@ use Rattle.std.proofs.lemmas.Bool.{eq-eqb}
 use Rattle.std.proofs.lemmas.Bool.Decides.{nat_tests}
 use Rattle.std.proofs.lemmas.Nat.{and_mask, ones-le, le-div, div_below, leading_top, shr-shr}
 use Rattle.std.proofs.lemmas.Nat.Bits.{bit_at_and, bit_at_or, bit_at_xor, bit_at-zero, bit_at-pow_same, bit_at-pow_other, bit_at_ones, bit_at_ones_above, bit_at_above, same_from_bits}
-use Rattle.terms.specs.Masks.{member, subset, intersect, below, Subset, Intersect, Below, size}
+use Rattle.terms.specs.Masks.{member, subset, intersect, below, Subset, Intersect, Below, Without, size}
 
 -- a member is a bit that is one, and the library says which bits the operations make
 pub member_bit : (m k : ℕ) → member m k ≡ eqb (bit_at m k) 1
@@ -46,6 +46,14 @@ same_mask x y h = same_from_bits x y (λ k. grind (arith, bit_laws, h k))
 pub below_pow : (n : ℕ) → n < 2 ^ n
 below_pow zero = omega arith
 below_pow (suc n) = omega (arith, below_pow n, pow-suc 2 n)
+
+-- each set has a rest without the number
+pub rest_of : (x k : ℕ) → (rest : ℕ) × Without x k rest
+rest_of x k =
+    let n = x + 2 ^ k in
+    let few = below_pow n in
+    let one = pow_pos k in
+    (bit_and x (2 ^ n - 1 - 2 ^ k), λ j. member_minus n x (2 ^ k) j (omega arith) (omega arith) ∙ ap (λ b. member x j && not b) (member_one k j))
 
 -- a mask that is not zero has a greatest member
 greatest_member : (m : ℕ) → 0 < m → (k : ℕ) × (member m k ≡ true) × (m < 2 ^ suc k)

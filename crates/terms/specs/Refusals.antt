@@ -1,5 +1,5 @@
 -- The number of each refusal, its layer, and the layers' letters.
-use Rattle.std.specs.Prelude.{ℕ, Bool, if◌then◌else◌, List, [], ◌∷◌, Some, None, Option}
+use Rattle.std.specs.Prelude.{ℕ, Some, None, Option}
 use Rattle.terms.specs.declared.refusals.Layer.{Layer}
 use Rattle.terms.specs.declared.refusals.Layer.TheVariants.{Text, Job, Finder, CoverMaker}
 use Rattle.terms.specs.declared.refusals.Part.{Part}
