@@ -1,4 +1,5 @@
 #!/usr/bin/env python3
+# History: this script belongs to work that is done, and is used no more.
 """Lists the places in src/ (for point 8: in proofs/) that docs/DESIGN-PASS.md counts. Run it at the top of a checkout:
 
     python3 tools/count_places.py          the number of places of each point

@@ -1,4 +1,5 @@
 #!/usr/bin/env python3
+# History: this script belongs to work that is done, and is used no more.
 """Respells this repository's own definitions and lemmas: words in snake case, facts and types in camel case.
 
 usage: python3 tools/respell.py        at the top of the repository, once, right after the kit's port.py
