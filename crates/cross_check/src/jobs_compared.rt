@@ -18,6 +18,7 @@ use counts::Counts;
 use drawing::{Drawing, draw_job};
 use edges::show_edges;
 use finder_shrinking::Shrinking;
+use finders::Finder;
 use jobs::Job;
 use maker_branch::BranchAndBoundMaker;
 use makers::CoverMaker;
@@ -63,7 +64,19 @@ where
     let mut tables = Tables::new(rt.alloc(), 20, 80)?;
     let finder = tables.search(usize::from(drawn.variables));
     let job = Job::open(Shrinking::new(finder), maker);
-    let mut comparison = Comparison::new(rt.alloc(), job, drawn.variables);
+    let comparison = Comparison::new(rt.alloc(), job, drawn.variables);
+    make_all(rt, comparison, drawn, counts)
+}
+
+fn make_all<F: Finder + Drop, C: CoverMaker + Drop>(
+    rt: &(impl Print + AllocGlobal),
+    mut comparison: Comparison<F, C>,
+    drawn: &Drawing<C::Weight>,
+    counts: &mut Counts,
+) -> Result<()>
+where
+    C::Weight: Reckoned,
+{
     for (index, call) in drawn.calls.iter().enumerate() {
         if let Err(fault) = comparison.make(call, counts) {
             drawn.show(rt, index)?;
