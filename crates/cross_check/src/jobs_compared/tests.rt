@@ -6,8 +6,10 @@ use super::enumeration::{Cost, Enumeration};
 use super::said::Said;
 use crate::faults::Fault;
 use crate::tables::Tables;
+use finders::Finder;
 use jobs::{Job, Status};
 use maker_branch::BranchAndBoundMaker;
+use makers::CoverMaker;
 use std::alloc::Global;
 use std::test::Fail;
 use weights::Plain;
@@ -66,15 +68,29 @@ fn wrong_answers_of_a_job_are_told(rt: HostRuntime) -> Result<(), Fail> {
         let got = told(rt.alloc(), status, floor, ceiling, plan)?;
         assert_eq!(rt; got, wanted, "{status}, {floor}, {ceiling:?}, {plan:?}");
     }
-    // The job gets a clause that the enumeration does not, and has then no place for one that fits.
+    Ok(())
+}
+
+/// What is told call by call where the job gets a clause that the enumeration does not, and has then no place for one that fits.
+fn told_of_another_clause<F: Finder + Drop, C: CoverMaker<Weight = Plain> + Drop>(
+    alloc: Global,
+    job: Job<F, C>,
+) -> Result<[Option<Fault>; 3], Fail> {
+    let mut comparison = Comparison::new(alloc, job, 2);
+    let mut counts = Counts::new(alloc);
+    let soft = Call::Soft(Plain::new(4), vec![in alloc; -1]?);
+    let first = comparison.make(&soft, &mut counts).err();
+    let _ = comparison.job.hard(&[1]);
+    let end = comparison.make(&Call::End, &mut counts).err();
+    let last = comparison.make(&soft, &mut counts).err();
+    Ok([first, end, last])
+}
+
+#[test]
+fn a_job_with_another_clause_is_told(rt: HostRuntime) -> Result<(), Fail> {
     let mut tables = Tables::new(rt.alloc(), 2, 2)?;
-    let job = Job::open(tables.search(2), BranchAndBoundMaker::new(rt.alloc())?);
-    let mut comparison = Comparison::new(rt.alloc(), job, 2);
-    let mut counts = Counts::new(rt.alloc());
-    let soft = Call::Soft(Plain::new(4), vec![in rt.alloc(); -1]?);
-    assert_eq!(rt; comparison.make(&soft, &mut counts), Ok(()));
-    assert_eq!(rt; comparison.job.hard(&[1]), Ok(()));
-    assert_eq!(rt; comparison.make(&Call::End, &mut counts), Err(Fault::Floor));
-    assert_eq!(rt; comparison.make(&soft, &mut counts), Err(Fault::Refusals));
+    let maker = BranchAndBoundMaker::new(rt.alloc())?;
+    let told = told_of_another_clause(rt.alloc(), Job::open(tables.search(2), maker))?;
+    assert_eq!(rt; told, [None, Some(Fault::Floor), Some(Fault::Refusals)]);
     Ok(())
 }
