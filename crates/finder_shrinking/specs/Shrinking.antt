@@ -20,7 +20,7 @@ abbrev pub Minimal : FinderMeaning → ℕ → Type 0
 Minimal m set = (k : ℕ) → member set k ≡ true → Needed m set k
 
 -- an answer's core is minimal
-abbrev pub Shrunk : FinderMeaning → Result Answer Refusal → Type 0
+abbrev pub Shrunk : FinderMeaning → Result (Answer SoftSet) Refusal → Type 0
 Shrunk m (Ok Found) = Unit {0}
 Shrunk m (Ok (Conflict core)) = Minimal m core
 Shrunk m (Err r) = Unit {0}

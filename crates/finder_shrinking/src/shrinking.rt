@@ -61,12 +61,10 @@ impl<F: Finder> Shrinking<F> {
         ensures { Cored (F.Finder.meaning self.now) set result }
     {
         let mut trial = [0; MOST_VARIABLES];
-        let Ok(answer) = self.below.ask(set, &mut trial) else {
-            return None;
-        };
-        match answer {
-            Answer::Core(core) => Some(core),
-            Answer::Model => None,
+        match self.below.ask(set, &mut trial) {
+            Ok(Answer::Core(core)) => Some(core),
+            Ok(Answer::Model) => None,
+            Err(_) => None,
         }
     }
 }

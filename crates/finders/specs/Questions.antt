@@ -20,7 +20,7 @@ pub record Core (m : FinderMeaning) (core : ℕ) : Type 0 where
   pub conflict : (a : List ℕ) → Model m core a → ⊥
 
 -- a model stands in the first n bytes and the others are as before; at a core, or where the call is refused, all of them are
-abbrev pub Asked : FinderMeaning → ℕ → List ℕ → Result Answer Refusal → List ℕ → Type 0
+abbrev pub Asked : FinderMeaning → ℕ → List ℕ → Result (Answer SoftSet) Refusal → List ℕ → Type 0
 Asked m set before (Ok Found) after = Model m set (take m.n after) × (drop m.n after ≡ drop m.n before)
 Asked m set before (Ok (Conflict core)) after = Core m core × Subset core set × (after ≡ before)
 Asked m set before (Err r) after = after ≡ before

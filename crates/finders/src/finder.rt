@@ -8,13 +8,13 @@ ghost use Rattle.finders.specs.Questions.{Asked, ToldBroken};
 
 use terms::{Refusal, SoftSet};
 
-/// What a finder answers when it is asked for a set of soft clauses.
+/// What a finder answers when it is asked for a set of soft clauses. A core is a set of them, `C`.
 #[derive(Clone, Copy, PartialEq, Eq, Debug)]
-pub enum Answer {
+pub enum Answer<C = SoftSet> {
     /// An admitted assignment satisfies them all; it is in the buffer.
     Model,
     /// No admitted assignment satisfies those of this set together.
-    Core(SoftSet),
+    Core(C),
 }
 
 /// Keeps hard and soft clauses, and finds out which of them can be satisfied together.

@@ -3,6 +3,7 @@ use Rattle.std.proofs.Common.{◌≡◌, ℕ, Bool, true, false, cond, List, len
 use Rattle.std.proofs.lemmas.Bool.Decides.{nat_tests}
 use Rattle.terms.specs.Masks.{Subset}
 use Rattle.terms.specs.declared.refusals.Refusal.{Refusal}
+use Rattle.terms.specs.declared.soft_sets.SoftSet.{SoftSet}
 use Rattle.terms.specs.declared.refusals.Refusal.TheVariants.{NotFresh, Finished}
 use Rattle.weights.specs.Kinds.{Kind}
 use Rattle.finders.specs.Questions.{Asked, Model}
@@ -37,7 +38,7 @@ pub ruleset rests = (unfresh, ended)
 pub ruleset questions = (nat_tests, not_refused)
 
 module _ {W : Type 0} {K : Kind W} where
-  pub first_rounds : (s t : State K) (set : ℕ) (before after : List ℕ) (a : Answer) (o : Option Refusal) → s.fresh ≡ true → status s ≡ Unasked → set ≡ 0
+  pub first_rounds : (s t : State K) (set : ℕ) (before after : List ℕ) (a : Answer SoftSet) (o : Option Refusal) → s.fresh ≡ true → status s ≡ Unasked → set ≡ 0
       → Asked s.finder set before (Ok a) after → o ≡ None → t ≡ after_first s a after → Round s o t
   first_rounds s t set before after Found o fresh unasked e told none led =
       subst₂ (Round s) (sym none) (sym led) (first_model fresh unasked (take s.finder.n after) (subst (λ x. Model s.finder x (take s.finder.n after)) e told.0))
@@ -53,7 +54,7 @@ module _ {W : Type 0} {K : Kind W} where
       let x : Assignment s.finder.n k.0.values × (s.finder.admits k.0.values ≡ true) = grind (arith, nat_tests, a) in
       (refused_is_full s.maker core (found_is_proper s.finder k.0.values x (length s.maker.weights) paired core h) r refused).0
 
-  pub goes_on : (s t : State K) (floor : K.V) (set : ℕ) (before after : List ℕ) (a : Answer) (o : Option Refusal) → s.fresh ≡ true
+  pub goes_on : (s t : State K) (floor : K.V) (set : ℕ) (before after : List ℕ) (a : Answer SoftSet) (o : Option Refusal) → s.fresh ≡ true
       → length s.maker.weights ≡ length s.finder.softs → kept_admitted_by s.finder s.kept ≡ true → Asks s floor set → Asked s.finder set before (Ok a) after
       → o ≡ answer_refused s a → t ≡ unless_refused o (after_answer s floor a after) s → Round s o t
   goes_on s t floor set before after Found None fresh paired admitted asks told e led =

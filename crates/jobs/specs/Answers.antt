@@ -22,19 +22,19 @@ module _ {W : Type 0} {K : Kind W} where
   keeping s bytes = after_model s (take s.finder.n bytes) s.phase
 
   -- with nothing kept, after the question for no soft clauses
-  abbrev pub after_first : State K → Answer → List ℕ → State K
+  abbrev pub after_first : State K → Answer SoftSet → List ℕ → State K
   after_first s Model bytes = after_model s (take s.finder.n bytes) Quick
   after_first s (Core core) bytes = voided s
 
   -- with something kept, after the question for the soft clauses outside a cover: a core may find no place
-  abbrev pub answer_refused : State K → Answer → Option Refusal
+  abbrev pub answer_refused : State K → Answer SoftSet → Option Refusal
   answer_refused s Model = None
   answer_refused s (Core core) = core_refused s.maker core
 
   -- the state at that floor, after the answer; a model stands in the first n bytes
-  abbrev pub after_answer : State K → K.V → Answer → List ℕ → State K
+  abbrev pub after_answer : State K → K.V → Answer SoftSet → List ℕ → State K
   after_answer s floor Model bytes = after_model (at_floor s floor) (take s.finder.n bytes) Exact
   after_answer s floor (Core core) bytes = after_core (at_floor s floor) core
 
-  abbrev pub TakesAnswer : State K → K.V → Answer → List ℕ → Result (Unit {0}) Refusal → State K → Type 0
+  abbrev pub TakesAnswer : State K → K.V → Answer SoftSet → List ℕ → Result (Unit {0}) Refusal → State K → Type 0
   TakesAnswer s floor answer bytes result t = Changes result (λ s. after_answer s floor answer bytes) s t

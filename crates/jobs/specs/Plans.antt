@@ -1,6 +1,7 @@
 -- What is kept, seen as a plan.
 use Rattle.std.specs.Prelude.{◌≡◌, ℕ, Bool, true, false, List, ◌&&◌, ◌==◌, IsTrue, length, take, Some, None, Option}
 use Rattle.terms.specs.Clauses.{binary}
+use Rattle.terms.specs.declared.soft_sets.SoftSet.{SoftSet}
 use Rattle.weights.specs.Kinds.{Kind}
 use Rattle.finders.specs.Meanings.{FinderMeaning}
 use Rattle.finders.specs.declared.finder.Answer.{Answer}
@@ -23,7 +24,7 @@ abbrev pub AdmitsFront : FinderMeaning → List ℕ → Type 0
 AdmitsFront f bytes = IsTrue (admitted_by f (take f.n bytes))
 
 -- the same where the answer is a model
-abbrev pub AdmitsModel : FinderMeaning → Answer → List ℕ → Type 0
+abbrev pub AdmitsModel : FinderMeaning → Answer SoftSet → List ℕ → Type 0
 AdmitsModel f answer bytes = answer ≡ Model → AdmitsFront f bytes
 
 -- the first n bytes at their cost
