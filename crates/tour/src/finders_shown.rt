@@ -4,9 +4,7 @@ use finder_count::CountThrough;
 use finder_search::Search;
 use finder_shrinking::Shrinking;
 use finders::{Answer, Finder};
-use itertools::Itertools;
-use std::alloc::{AllocError, Global};
-use std::io;
+use std::{fmt, io};
 use terms::{Refusal, SoftSet};
 
 // 1 is the electric pump, 2 the diesel pump, 3 the cooling circuit, 4 the fuel tank, 5 the flow meter.
@@ -30,7 +28,7 @@ const ASKED: [&[usize]; 8] = [
     &[0, 5],
 ];
 
-pub(crate) fn show(rt: &(impl Print + AllocGlobal)) -> io::Result<()> {
+pub(crate) fn show(rt: &impl Print) -> io::Result<()> {
     let mut records = [ClauseRecord::blank(); 10];
     let mut literals = [0; 15];
     println!(rt; "The count-through finder answers.")?;
@@ -45,7 +43,7 @@ pub(crate) fn show(rt: &(impl Print + AllocGlobal)) -> io::Result<()> {
 }
 
 /// Enters the clauses, asks for sets of wishes, enters one clause more, and asks again.
-fn play<F: Finder + Drop>(rt: &(impl Print + AllocGlobal), mut finder: F) -> io::Result<()> {
+fn play<F: Finder + Drop>(rt: &impl Print, mut finder: F) -> io::Result<()> {
     for clause in &NEEDS {
         show_added(rt, "Need", clause, finder.add_hard(clause))?;
     }
@@ -62,12 +60,15 @@ fn play<F: Finder + Drop>(rt: &(impl Print + AllocGlobal), mut finder: F) -> io:
 
 /// The clause, and whether it was added.
 fn show_added(
-    rt: &(impl Print + AllocGlobal),
+    rt: &impl Print,
     name: &str,
     clause: &[i32],
     outcome: Result<(), Refusal>,
 ) -> io::Result<()> {
-    let literals = clause.iter().join(rt.alloc(), " ")?;
+    let literals = Joined {
+        items: clause,
+        separator: " ",
+    };
     match outcome {
         Ok(()) => println!(rt; "  {name} {literals} is added."),
         Err(refusal) => println!(rt; "  {name} {literals} is refused with {}.", refusal.number()),
@@ -75,11 +76,10 @@ fn show_added(
 }
 
 /// Asks for each of the sets, and says what was answered.
-fn ask_all<F: Finder>(rt: &(impl Print + AllocGlobal), finder: &F) -> io::Result<()> {
+fn ask_all<F: Finder>(rt: &impl Print, finder: &F) -> io::Result<()> {
     for numbers in &ASKED {
         let set = SoftSet::of(numbers);
-        let wishes = listed(rt.alloc(), set)?;
-        print!(rt; "  Asked for {wishes}: ")?;
+        print!(rt; "  Asked for {}: ", Wishes(set))?;
         let mut buffer = [0; VARIABLES];
         match finder.ask(set, &mut buffer) {
             Ok(answer) => show_answer(rt, finder, answer, &buffer)?,
@@ -91,23 +91,20 @@ fn ask_all<F: Finder>(rt: &(impl Print + AllocGlobal), finder: &F) -> io::Result
 
 /// The plan with the wishes that it breaks, or the wishes that stand against each other.
 fn show_answer<F: Finder>(
-    rt: &(impl Print + AllocGlobal),
+    rt: &impl Print,
     finder: &F,
     answer: Answer,
     plan: &[u8],
 ) -> io::Result<()> {
     match answer {
-        Answer::Core(core) => {
-            let wishes = listed(rt.alloc(), core)?;
-            println!(rt; "no plan, as there is none for {wishes}.")
-        }
+        Answer::Core(core) => println!(rt; "no plan, as there is none for {}.", Wishes(core)),
         Answer::Model => {
-            let values = plan.iter().join(rt.alloc(), "")?;
+            let values = Joined {
+                items: plan,
+                separator: "",
+            };
             match finder.broken(plan) {
-                Ok(broken) => {
-                    let wishes = listed(rt.alloc(), broken)?;
-                    println!(rt; "plan {values}, which breaks {wishes}.")
-                }
+                Ok(broken) => println!(rt; "plan {values}, which breaks {}.", Wishes(broken)),
                 Err(refusal) => println!(rt;
                     "plan {values}, which is refused with {}.",
                     refusal.number()
@@ -117,10 +114,38 @@ fn show_answer<F: Finder>(
     }
 }
 
-/// The numbers of a set, or that there is none.
-fn listed(alloc: Global, set: SoftSet) -> Result<String, AllocError> {
-    if set.is_empty() {
-        return String::from_str(alloc, "none");
+/// Items with a separator between each two. Nothing is allocated to show them.
+#[derive(Drop)]
+struct Joined<'a, T> {
+    items: &'a [T],
+    separator: &'a str,
+}
+
+impl<T: fmt::Display> fmt::Display for Joined<'_, T> {
+    fn fmt<W: fmt::Write>(&self, f: &mut fmt::Formatter<W>) -> fmt::Result {
+        let mut separator = "";
+        for item in self.items {
+            write!(f, "{separator}{item}")?;
+            separator = self.separator;
+        }
+        Ok(())
     }
-    set.members().join(alloc, " and ")
+}
+
+/// The numbers of a set, or that there is none.
+#[derive(Drop)]
+struct Wishes(SoftSet);
+
+impl fmt::Display for Wishes {
+    fn fmt<W: fmt::Write>(&self, f: &mut fmt::Formatter<W>) -> fmt::Result {
+        let mut numbers = self.0.members();
+        let Some(lowest) = numbers.next() else {
+            return f.write_str("none");
+        };
+        write!(f, "{lowest}")?;
+        for number in numbers {
+            write!(f, " and {number}")?;
+        }
+        Ok(())
+    }
 }
