@@ -10,13 +10,13 @@ pub enum Part {
     CoverMaker,
 }
 
-/// The layer of the product that a refusal on a line of a session comes from, with its letter.
+/// The layer of the product that a refusal on a line of a session comes from.
 #[derive(Clone, Copy, PartialEq, Eq, Debug)]
 pub enum Layer {
-    Text = b't' as isize,
-    Job = b'j' as isize,
-    Finder = b'f' as isize,
-    CoverMaker = b'c' as isize,
+    Text,
+    Job,
+    Finder,
+    CoverMaker,
 }
 
 impl Layer {
@@ -24,7 +24,12 @@ impl Layer {
     pub fn letter(self) -> char
         ensures { result ≡ letter_of self }
     {
-        char::from(self as u8)
+        match self {
+            Layer::Text => 't',
+            Layer::Job => 'j',
+            Layer::Finder => 'f',
+            Layer::CoverMaker => 'c',
+        }
     }
 }
 
