@@ -7,7 +7,12 @@ pub fn is_binary(bytes: &[u8]) -> bool
     ensures value { result ≡ binary bytes.now }
     ensures means { IsTrue result ↔ Binary bytes.now }
 {
-    bytes.iter().all(|byte| *byte < 2)
+    for byte in bytes {
+        if *byte > 1 {
+            return false;
+        }
+    }
+    true
 }
 
 /// Whether at least one literal of the clause is true.
