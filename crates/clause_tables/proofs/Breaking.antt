@@ -28,7 +28,7 @@ pub breaks-suc : (a : List ℕ) (c : List ℤ) (cs : List (List ℤ)) (k : ℕ) 
 breaks-suc a c cs k = ap (λ b. b && not (satisfied_by a (get_or cs k []))) (let e : ltb (suc k) (suc (length cs)) ≡ ltb k (length cs) = grind (arith, nat_tests) in e)
 
 -- ---- where the numbers begin with s, none below s is broken, and number s + k is where the soft clause at k is
-none_below : (s : ℕ) (es : List Entry) (a : List ℕ) (j : ℕ) → numbered s es ≡ true → j < s → broken_in es a j ≡ false
+pub none_below : (s : ℕ) (es : List Entry) (a : List ℕ) (j : ℕ) → numbered s es ≡ true → j < s → broken_in es a j ≡ false
 none_below s [] a j h l = refl
 none_below s (e ∷ es) a j h l =
     by_kind e.kind (and_parts (well_numbered s e.kind) (numbered (softs_after s e.kind) es) h) (λ t. none_below t es a j)
@@ -40,7 +40,7 @@ none_below s (e ∷ es) a j h l =
         let other = ne_eqb i j (λ z. omega (arith, eqb-true i s w.0)) in
         or_from (eqb i j && not (satisfied_by a e.clause)) (broken_in es a j) (and_left (eqb i j) _ other) (ih (suc s) w.1 (omega arith))
 
-broken_at : (s : ℕ) (es : List Entry) (a : List ℕ) (k : ℕ) → numbered s es ≡ true → broken_in es a (s + k) ≡ breaks a (softs es) k
+pub broken_at : (s : ℕ) (es : List Entry) (a : List ℕ) (k : ℕ) → numbered s es ≡ true → broken_in es a (s + k) ≡ breaks a (softs es) k
 broken_at s [] a k h = sym (breaks-nil a k)
 broken_at s (e ∷ es) a k h =
     by_kind e.kind (and_parts (well_numbered s e.kind) (numbered (softs_after s e.kind) es) h) (λ t j. broken_at t es a j)

@@ -1,5 +1,5 @@
 //! What a caller lends to be filled from the front.
-ghost use Rattle.std.specs.Prelude.{◌≡◌, ◌+◌, ◌<◌, ◌≤◌, ◌++◌, ◌∷◌, [], length};
+ghost use Rattle.std.specs.Prelude.{◌≡◌, ◌+◌, ◌<◌, ◌≤◌, ◌++◌, ◌∷◌, [], length, drop};
 
 use std::marker::Model;
 
@@ -11,12 +11,12 @@ pub struct Lent<'a, T> {
 }
 
 impl<'a, T> Model for Lent<'a, T> {
-    ghost use Rattle.std.specs.Prelude.{◌≤◌, ◌-◌, length, take};
+    ghost use Rattle.std.specs.Prelude.{◌≤◌, ◌-◌, length, take, drop};
     ghost use Rattle.clause_tables.specs.Filled.{Filled};
 
     ghost Value = { Filled T };
 
-    ghost view = { λ a. record { items = take a.used a.places.now; free = length a.places.now - a.used } };
+    ghost view = { λ a. record { items = take a.used a.places.now; free = length a.places.now - a.used; behind = drop a.used a.places.now } };
 
     ghost invariant = { λ a. a.used ≤ length a.places.now };
 }
@@ -26,6 +26,7 @@ impl<'a, T: Copy> Lent<'a, T> {
     pub(crate) fn new(places: &'a mut [T]) -> Self
         ensures items { result.items ≡ [] }
         ensures free { result.free ≡ length places.old }
+        ensures behind { result.behind ≡ places.old }
     {
         Lent { places, used: 0 }
     }
@@ -49,16 +50,19 @@ impl<'a, T: Copy> Lent<'a, T> {
         requires { 0 < self.old.free }
         ensures items { self.new.items ≡ self.old.items ++ item ∷ [] }
         ensures free { self.new.free + 1 ≡ self.old.free }
+        ensures behind { self.new.behind ≡ drop 1 self.old.behind }
     {
         self.places[self.used] = item;
         self.used += 1;
     }
 
     /// Puts the items behind the others.
+    #[tactic(auto, using(std::proofs::lemmas::Slice::overwrites))]
     pub(crate) fn extend(&mut self, more: &[T])
         requires { length more.now ≤ self.old.free }
         ensures items { self.new.items ≡ self.old.items ++ more.now }
         ensures free { self.new.free + length more.now ≡ self.old.free }
+        ensures behind { self.new.behind ≡ drop (length more.now) self.old.behind }
     {
         let end = self.used + more.len();
         self.places[self.used..end].copy_from_slice(more);
