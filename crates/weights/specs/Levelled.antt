@@ -1,5 +1,5 @@
 -- Level weights: three whole numbers, each held below 2 ^ 32 and summed by itself. The first counts before the second, and the second before the third.
-use Rattle.std.specs.Prelude.{ℕ, ◌+◌, ◌^◌, Bool, ◌&&◌, ◌||◌, List, ◌∷◌, ◌++◌, decimal, ◌==◌, nat_le, nat_lt}
+use Rattle.std.specs.Prelude.{◌≡◌, ℕ, ◌+◌, ◌^◌, Bool, ◌&&◌, ◌||◌, List, ◌∷◌, ◌++◌, decimal, ◌==◌, nat_le, nat_lt}
 use Rattle.weights.specs.Kinds.{Kind}
 use Rattle.weights.specs.declared.levels.Levels.{Levels}
 
@@ -10,6 +10,10 @@ pub record Three : Type 0 where
 
 abbrev pub three : ℕ → ℕ → ℕ → Three
 three a b c = record { first = a; second = b; third = c }
+
+-- values of equal levels are equal
+pub same_three : {a b c d e f : ℕ} → a ≡ d → b ≡ e → c ≡ f → three a b c ≡ three d e f
+same_three p q r = λ i. three (p i) (q i) (r i)
 
 abbrev pub at_most : Three → Three → Bool
 at_most x y =
